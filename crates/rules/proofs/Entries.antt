@@ -1,0 +1,100 @@
+-- The kind table's rows, a law a return; and an entry's parts are earlier entries.
+-- Assumes nothing.
+use mathlib.Core.Path.{_≡_, refl, sym, ap, _∙_}
+use mathlib.Core.Bool.{Bool, true, false, cond, _&&_, false≢true}
+use Prim.Native.Nat.{ℕ, _/_, _%_, _<_, _≤_}
+use lib.Dec.{eqb, ltb}
+use borrow.Author.Tests.{eq-eqb, ne-eqb, lt-ltb, le-ltb, ltb-true}
+use Rattle.rules.specs.Entries.{isAlone, areEarlier, byKind, pairOf, entryFrom, entryOf}
+use Rattle.rules.specs.declared.Entry.{Entry}
+use Rattle.rules.specs.declared.Entry.the-variants.{Atom, Not, Or, And, Since, Until, Broken}
+
+module _ (bound l r : ℕ) where
+  pub alone-below : l < bound → eqb r 0 ≡ isAlone bound l r
+  unfolding isAlone
+  alone-below lt = simp (lt-ltb l bound lt)
+
+  pub alone-past : bound ≤ l → ltb l bound ≡ isAlone bound l r
+  unfolding isAlone
+  alone-past le = simp (le-ltb l bound le)
+
+  pub earlier-below : l < bound → ltb r bound ≡ areEarlier bound l r
+  unfolding areEarlier
+  earlier-below lt = simp (lt-ltb l bound lt)
+
+  pub earlier-past : bound ≤ l → ltb l bound ≡ areEarlier bound l r
+  unfolding areEarlier
+  earlier-past le = simp (le-ltb l bound le)
+
+module _ (i k l r : ℕ) where
+  pub pair-late : areEarlier i l r ≡ false → Broken ≡ pairOf i k l r
+  unfolding pairOf
+  pair-late e = simp e
+
+  pub pair-kind : (n : ℕ) → areEarlier i l r ≡ true → k ≡ n → byKind n l r ≡ pairOf i k l r
+  unfolding pairOf
+  pair-kind n e p = simp (p, e)
+
+  pub pair-none : areEarlier i l r ≡ true → (k ≡ 2 → ⊥) → (k ≡ 3 → ⊥) → (k ≡ 4 → ⊥) → (k ≡ 5 → ⊥) → Broken ≡ pairOf i k l r
+  unfolding pairOf
+  pair-none e n2 n3 n4 n5 = simp (e, ne-eqb k 2 n2, ne-eqb k 3 n3, ne-eqb k 4 n4, ne-eqb k 5 n5)
+
+  pub entry-atom : (t : Bool) → k ≡ 0 → isAlone 32 l r ≡ t → cond t (Atom l) Broken ≡ entryFrom i k l r
+  unfolding entryFrom
+  entry-atom t e p = simp (eq-eqb k 0 e, p)
+
+  pub entry-not : (t : Bool) → (k ≡ 0 → ⊥) → k ≡ 1 → isAlone i l r ≡ t → cond t (Not l) Broken ≡ entryFrom i k l r
+  unfolding entryFrom
+  entry-not t n e p = simp (ne-eqb k 0 n, eq-eqb k 1 e, p)
+
+  pub entry-pair : (k ≡ 0 → ⊥) → (k ≡ 1 → ⊥) → pairOf i k l r ≡ entryFrom i k l r
+  unfolding entryFrom
+  entry-pair n m = simp (ne-eqb k 0 n, ne-eqb k 1 m)
+
+-- a property of a choice, from the choice made
+pub cond-elim : {A : Type 0} (P : A → Type 0) (t : Bool) {x y : A} → (t ≡ true → P x) → (t ≡ false → P y) → P (cond t x y)
+cond-elim P true f g = f refl
+cond-elim P false f g = g refl
+
+-- every part that an entry names lies below a bound
+abbrev pub PartsBelow : ℕ → Entry → Type 0
+PartsBelow i (Atom a) = Unit
+PartsBelow i (Not l) = l < i
+PartsBelow i (Or l r) = (l < i) × (r < i)
+PartsBelow i (And l r) = (l < i) × (r < i)
+PartsBelow i (Since l r) = (l < i) × (r < i)
+PartsBelow i (Until l r) = (l < i) × (r < i)
+PartsBelow i Broken = Unit
+
+pub and-both : (a b : Bool) → (a && b) ≡ true → (a ≡ true) × (b ≡ true)
+and-both true true e = (refl, refl)
+and-both true false e = (refl, e)
+and-both false b e = (e, absurd (false≢true e))
+
+alone-is : (i l r : ℕ) → isAlone i l r ≡ true → l < i
+unfolding isAlone
+alone-is i l r e = ltb-true l i (and-both (ltb l i) (eqb r 0) e .0)
+
+earlier-are : (i l r : ℕ) → areEarlier i l r ≡ true → (l < i) × (r < i)
+unfolding areEarlier
+earlier-are i l r e =
+    let both = and-both (ltb l i) (ltb r i) e in
+    (ltb-true l i (both .0), ltb-true r i (both .1))
+
+by-kind-below : (i k l r : ℕ) → (l < i) × (r < i) → PartsBelow i (byKind k l r)
+by-kind-below i k l r h =
+    cond-elim (PartsBelow i) (eqb k 2) (λ _. h)
+    (λ _. cond-elim (PartsBelow i) (eqb k 3) (λ _. h)
+    (λ _. cond-elim (PartsBelow i) (eqb k 4) (λ _. h)
+    (λ _. cond-elim (PartsBelow i) (eqb k 5) (λ _. h) (λ _. tt))))
+
+-- The parts of an entry are earlier entries.
+pub parts-earlier : (i w : ℕ) → PartsBelow i (entryOf i w)
+unfolding entryOf entryFrom pairOf
+parts-earlier i w =
+    let k = w / 65536 in
+    let l = w / 256 % 256 in
+    let r = w % 256 in
+    cond-elim (PartsBelow i) (eqb k 0) (λ _. cond-elim (PartsBelow i) (isAlone 32 l r) (λ _. tt) (λ _. tt))
+    (λ _. cond-elim (PartsBelow i) (eqb k 1) (λ _. cond-elim (PartsBelow i) (isAlone i l r) (λ e. alone-is i l r e) (λ _. tt))
+    (λ _. cond-elim (PartsBelow i) (areEarlier i l r) (λ e. by-kind-below i k l r (earlier-are i l r e)) (λ _. tt)))

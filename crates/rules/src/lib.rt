@@ -1,0 +1,285 @@
+// Rule tables: what an entry says, the record that a list is read into, the heights, and refusals 3 to 6.
+use schedule::Schedule;
+ghost use mathlib.Core.Path.{_≡_};
+ghost use mathlib.Core.List.{List};
+ghost use Prim.Native.Nat.{_≤_, _<_, max};
+ghost use lib.ListN.{length};
+ghost use Rattle.schedule.specs.Limits.{maxEntries};
+ghost use Rattle.schedule.specs.Figures.{bare};
+ghost use Rattle.rules.specs.Formula.{height, sinceAdds, untilAdds};
+ghost use Rattle.rules.specs.Entries.{entryOf, isAlone, areEarlier, pairOf, kept};
+ghost use Rattle.rules.specs.Tables.{entryAt, formulaOf, keepsAll, tableOf, noTable, Reads};
+ghost use Rattle.rules.specs.Asked.{lowAt, lowAll, askedFigures, askRefusal};
+ghost use Rattle.rules.specs.Heights.{partsOf};
+
+// Atoms of a letter: its bits.
+const ATOMS: usize = 32;
+
+pub enum Side {
+    Past,
+    Future,
+}
+
+// What a word of a table says at its place.
+pub enum Entry {
+    Atom(usize),
+    Not(usize),
+    Or(usize, usize),
+    And(usize, usize),
+    Since(usize, usize),
+    Until(usize, usize),
+    Broken,
+}
+
+// A table once read: its entries and their count.
+pub struct Table {
+    pub words: [u32; 32],
+    pub len: usize,
+}
+
+// Why a list is no table, or that it is one.
+pub enum Outcome {
+    Count,
+    Kind,
+    Ready,
+}
+
+// (An enum cannot hold the table's array, so the table stands beside it: with no entry where the list is refused.)
+pub struct Reading {
+    pub outcome: Outcome,
+    pub table: Table,
+}
+
+// Why an entry of a table cannot be asked, or that it can.
+pub enum Asked {
+    TooHigh,
+    NoEntry,
+    Ready,
+}
+
+// An entry with one field keeps the kind table if that lies below its bound and the other is 0.
+fn alone(bound: usize, left: usize, right: usize) -> bool
+    ensures { λ r. ⌜ r ≡ isAlone bound left right ⌝ }
+{
+    left < bound && right == 0
+}
+
+// One with two fields, if both are earlier entries.
+fn earlier(index: usize, left: usize, right: usize) -> bool
+    ensures { λ r. ⌜ r ≡ areEarlier index left right ⌝ }
+{
+    left < index && right < index
+}
+
+fn pair(index: usize, kind: u32, left: usize, right: usize) -> Entry
+    ensures { λ r. ⌜ r ≡ pairOf index kind left right ⌝ }
+{
+    if !earlier(index, left, right) {
+        return Entry::Broken;
+    }
+    match kind {
+        2 => Entry::Or(left, right),
+        3 => Entry::And(left, right),
+        4 => Entry::Since(left, right),
+        5 => Entry::Until(left, right),
+        _ => Entry::Broken,
+    }
+}
+
+// The entry of a word at its index.
+pub fn decode(index: usize, word: u32) -> Entry
+    ensures { λ r. ⌜ r ≡ entryOf index word ⌝ }
+{
+    let kind = word / 65536;
+    let left = (word / 256 % 256) as usize;
+    let right = (word % 256) as usize;
+    if kind == 0 {
+        if alone(ATOMS, left, right) {
+            return Entry::Atom(left);
+        }
+        return Entry::Broken;
+    }
+    if kind == 1 {
+        if alone(index, left, right) {
+            return Entry::Not(left);
+        }
+        return Entry::Broken;
+    }
+    pair(index, kind, left, right)
+}
+
+fn entry_at(words: &[u32], e: usize) -> Entry
+    ensures { λ r. ⌜ r ≡ entryAt (now (words .entry)) e ⌝ }
+{
+    if e < words.len() {
+        return decode(e, words[e]);
+    }
+    decode(e, 0)
+}
+
+fn since_adds(side: Side) -> usize
+    ensures { λ r. ⌜ r ≡ sinceAdds side ⌝ }
+{
+    match side {
+        Side::Past => 1,
+        Side::Future => 0,
+    }
+}
+
+fn until_adds(side: Side) -> usize
+    ensures { λ r. ⌜ r ≡ untilAdds side ⌝ }
+{
+    match side {
+        Side::Past => 0,
+        Side::Future => 1,
+    }
+}
+
+// Where a height is followed down: two parts and what the entry adds to the greater.
+enum Descent {
+    Leaf,
+    Down(usize, usize, usize),
+}
+
+fn parts(entry: Entry, side: Side) -> Descent
+    ensures { λ r. ⌜ r ≡ partsOf side entry ⌝ }
+{
+    match entry {
+        Entry::Not(l) => Descent::Down(l, l, 0),
+        Entry::Or(l, r) => Descent::Down(l, r, 0),
+        Entry::And(l, r) => Descent::Down(l, r, 0),
+        Entry::Since(l, r) => Descent::Down(l, r, since_adds(side)),
+        Entry::Until(l, r) => Descent::Down(l, r, until_adds(side)),
+        Entry::Atom(_) => Descent::Leaf,
+        Entry::Broken => Descent::Leaf,
+    }
+}
+
+fn larger(a: usize, b: usize) -> usize
+    ensures { λ r. ⌜ r ≡ max a b ⌝ }
+{
+    if a < b { b } else { a }
+}
+
+// A height of an entry, worked out by following its parts down; once where both are the same entry.
+pub fn height(words: &[u32], e: usize, side: Side) -> usize
+    ensures { λ r. ⌜ r ≡ height side (formulaOf (now (words .entry)) e) ⌝ }
+{
+    let Descent::Down(left, right, adds) = parts(entry_at(words, e), side) else {
+        return 0;
+    };
+    let a = height(words, left, side);
+    if left == right {
+        return a + adds;
+    }
+    larger(a, height(words, right, side)) + adds
+}
+
+fn keeps(index: usize, word: u32) -> bool
+    ensures { λ r. ⌜ r ≡ kept (entryOf index word) ⌝ }
+{
+    match decode(index, word) {
+        Entry::Atom(_) => true,
+        Entry::Not(_) => true,
+        Entry::Or(_, _) => true,
+        Entry::And(_, _) => true,
+        Entry::Since(_, _) => true,
+        Entry::Until(_, _) => true,
+        Entry::Broken => false,
+    }
+}
+
+// Whether every entry of a list keeps the kind table.
+fn all_keep(list: &[u32]) -> bool
+    ensures { λ r. ⌜ r ≡ keepsAll (now (list .entry)) ⌝ }
+{
+    let mut e = 0;
+    while e < list.len() {
+        if !keeps(e, list[e]) {
+            return false;
+        }
+        e += 1;
+    }
+    true
+}
+
+fn filled(list: &[u32]) -> Table
+    requires { ⌜ length (now list) ≤ maxEntries ⌝ }
+    ensures { λ r. ⌜ r ≡ tableOf (now (list .entry)) ⌝ }
+{
+    let mut words = [0u32; 32];
+    let mut e = 0;
+    while e < list.len() {
+        words[e] = list[e];
+        e += 1;
+    }
+    Table {
+        words,
+        len: list.len(),
+    }
+}
+
+fn refused(outcome: Outcome) -> Reading
+    ensures { λ r. ⌜ (r .outcome ≡ outcome) × (r .table ≡ noTable) ⌝ }
+{
+    Reading {
+        outcome,
+        table: Table {
+            words: [0u32; 32],
+            len: 0,
+        },
+    }
+}
+
+// A list of words read into the record, or the first refusal that it earns.
+pub fn read(list: &[u32]) -> Reading
+    ensures { λ r. ⌜ Reads (now (list .entry)) r ⌝ }
+{
+    if list.len() == 0 {
+        return refused(Outcome::Count);
+    }
+    if Schedule::MAX_ENTRIES < list.len() {
+        return refused(Outcome::Count);
+    }
+    if !all_keep(list) {
+        return refused(Outcome::Kind);
+    }
+    Reading {
+        outcome: Outcome::Ready,
+        table: filled(list),
+    }
+}
+
+// Whether the two heights of an entry add up to no more than the limit.
+fn low(words: &[u32], e: usize) -> bool
+    requires { ⌜ e < length (now words) ⌝ }
+    ensures { λ r. ⌜ r ≡ lowAt (now (words .entry)) e ⌝ }
+{
+    height(words, e, Side::Past) + height(words, e, Side::Future) <= Schedule::MAX_HEIGHT
+}
+
+fn all_low(words: &[u32]) -> bool
+    ensures { λ r. ⌜ r ≡ lowAll (now (words .entry)) ⌝ }
+{
+    let mut e = 0;
+    while e < words.len() {
+        if !low(words, e) {
+            return false;
+        }
+        e += 1;
+    }
+    true
+}
+
+// Whether an entry of a table can be asked, or the first refusal that the question earns.
+pub fn ask(words: &[u32], entry: usize) -> Asked
+    ensures { λ r. ⌜ askedFigures r ≡ bare (askRefusal (now (words .entry)) entry) ⌝ }
+{
+    if !all_low(words) {
+        return Asked::TooHigh;
+    }
+    if words.len() <= entry {
+        return Asked::NoEntry;
+    }
+    Asked::Ready
+}

@@ -1,0 +1,53 @@
+-- Two results that meet a public function's contract coincide.
+-- Assumes nothing.
+use mathlib.Core.Path.{_≡_, refl, sym, ap, _∙_}
+use mathlib.Core.Logic.{by-cases}
+use mathlib.Core.List.{List}
+use Prim.Native.Nat.{ℕ, _-_, _%_}
+use native.Mathlib.Decide.{decLt}
+use native.Mathlib.Omega.{arith}
+use lib.ListN.{length}
+use denote.Ref.{RefT, now, ptr}
+use Rattle.schedule.specs.Lengths.{Makes, figuresOf}
+use Rattle.schedule.specs.Letters.{Rest, View, letterAt}
+use Rattle.schedule.specs.declared.Made.{Made}
+use Rattle.schedule.specs.declared.Made.the-variants.{EmptyLoop, TooLong, Ready}
+
+-- Where a contract is an equation.
+pub equal-one {ℓ} : {A : Type ℓ} {x a b : A} → a ≡ x → b ≡ x → a ≡ b
+equal-one p q = p ∙ sym q
+
+module _ (u v : ℕ) where
+  one-number : {m n : Made} → Makes u v m → Makes u v n → figuresOf m .number ≡ figuresOf n .number
+  one-number p q = ap (λ f. f .number) (p .figures ∙ sym (q .figures))
+
+  pub new-one : (m n : Made) → Makes u v m → Makes u v n → m ≡ n
+  new-one EmptyLoop EmptyLoop p q = refl
+  new-one EmptyLoop TooLong p q = absurd (omega (arith, one-number p q))
+  new-one EmptyLoop (Ready s) p q = absurd (omega (arith, one-number p q))
+  new-one TooLong EmptyLoop p q = absurd (omega (arith, one-number p q))
+  new-one TooLong TooLong p q = refl
+  new-one TooLong (Ready s) p q = absurd (omega (arith, one-number p q))
+  new-one (Ready s) EmptyLoop p q = absurd (omega (arith, one-number p q))
+  new-one (Ready s) TooLong p q = absurd (omega (arith, one-number p q))
+  new-one (Ready s) (Ready t) p q = ap Ready (p .lengths s refl ∙ sym (q .lengths t refl))
+
+-- One part of the caller's memory, with one list of letters. (A reference's ghost name is no part of a result.)
+abbrev Same : RefT (List ℕ) → RefT (List ℕ) → Type 0
+Same part other = (now part ≡ now other) × (ptr part .0 ≡ ptr other .0) × (ptr part .1 ≡ ptr other .1)
+
+rest-one : (lent part other : RefT (List ℕ)) (from : ℕ) → Rest lent from part → Rest lent from other → Same part other
+rest-one lent part other from a b = (equal-one (a .letters) (b .letters), equal-one (a .block) (b .block), equal-one (a .offset) (b .offset))
+
+pub view-one : (prefix loop part other : RefT (List ℕ)) (i : ℕ) → View prefix loop i part → View prefix loop i other → Same part other
+view-one prefix loop part other i w z =
+    by-cases (decLt i (length (now prefix)))
+    (λ lt. rest-one prefix part other i (w .opening lt) (z .opening lt))
+    (λ ge. by-cases (decLt 0 (length (now loop)))
+      (λ some.
+          rest-one loop part other ((i - length (now prefix)) % length (now loop))
+          (w .looping (omega arith) some) (z .looping (omega arith) some))
+      (λ none. rest-one loop part other 0 (w .nothing (omega arith) (omega arith)) (z .nothing (omega arith) (omega arith))))
+
+pub letter-one : (prefix loop : List ℕ) (i a b : ℕ) → a ≡ letterAt prefix loop i → b ≡ letterAt prefix loop i → a ≡ b
+letter-one prefix loop i a b p q = equal-one p q

@@ -1,0 +1,21 @@
+-- `schedule::Schedule::new` meets its contract: a law a return.
+-- Assumes nothing.
+use native.Mathlib.Omega.{arith}
+use Rattle.schedule.proofs.Lengths.{makes-empty, makes-long, makes-ready}
+use Rattle.schedule.proofs.Schedule.new.Statement.{statement}
+use Rattle.schedule.proofs.Schedule.new.Tie as tie
+
+returns : tie.Need-returns
+returns c = makes-empty _ _ (c .if1 .taken)
+
+returns-2 : tie.Need-returns-2
+returns-2 c = makes-long _ _ (c .before .if1 .left) (omega arith)
+
+returns-3 : tie.Need-returns-3
+returns-3 c = makes-long _ _ (c .before .before .if1 .left) (omega arith)
+
+returns-4 : tie.Need-returns-4
+returns-4 c = makes-ready _ _ (c .before .before .if1 .left) (omega arith)
+
+pub new-spec : {M : Type 1} → statement M
+new-spec = tie.close (tie.spec returns returns-2 returns-3 returns-4)

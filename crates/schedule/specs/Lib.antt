@@ -1,0 +1,4 @@
+pub mod Limits
+pub mod Figures
+pub mod Lengths
+pub mod Letters

@@ -1,0 +1,1 @@
+// No code: the theorems about schedules, rules and trees that stand on their own, in proofs/.
