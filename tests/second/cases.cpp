@@ -255,6 +255,10 @@ std::vector<std::string_view> fields_of(std::string_view line) {
 
 std::string name_of(call what) { return NAMES[int(what)]; }
 
+std::string text_of(const answer& a) {
+    return std::to_string(a.number) + " " + std::to_string(a.place) + " " + std::to_string(a.verdict) + " " + std::to_string(a.size);
+}
+
 test_case case_of(const std::string& line) { return case_of_fields(fields_of(line), {}); }
 
 std::vector<test_case> read_cases(const std::filesystem::path& file) {
@@ -293,8 +297,7 @@ std::string line_of(const test_case& c) {
     s += " " + std::to_string(c.entry) + " " + std::to_string(c.position) + bar;
     s += c.what == call::check ? words_text(c.tree) : std::to_string(c.work);
     if (c.what == call::write) s += " " + std::to_string(c.room);
-    const answer& a = c.expected;
-    s += bar + std::to_string(a.number) + " " + std::to_string(a.place) + " " + std::to_string(a.verdict) + " " + std::to_string(a.size) + bar;
+    s += bar + text_of(c.expected) + bar;
     if (c.what == call::write) s += c.written.empty() ? "as found" : words_text(c.written);
     return s + bar + c.why;
 }

@@ -23,6 +23,7 @@ namespace second {
 enum class call { truth, find, write, check, view, explain };
 
 std::string name_of(call what);
+std::string text_of(const answer& a);
 
 struct test_case {
     call what = call::truth;

@@ -81,8 +81,7 @@ private:
 walk_end walk(const setting& where, std::size_t entry, std::uint64_t position, words tree) {
     walker w(where, tree);
     const bool valid = w.part(entry, position, 0) && w.next == tree.size();
-    if (!valid) return {false, std::uint32_t(w.next), 0};
-    return {true, 0, RULES[node_of(tree[0]).rule].verdict};
+    return {valid ? RULES[node_of(tree[0]).rule].verdict : 0, std::uint32_t(w.next)};
 }
 
 } // namespace second

@@ -6,9 +6,8 @@
 namespace second {
 
 struct walk_end {
-    bool valid;
-    std::uint32_t place;   // of the break; 0 if valid
-    std::uint32_t verdict; // claimed by the root; 0 if not valid
+    std::uint32_t verdict; // what the root claims, if the list is a tree; else 0
+    std::uint32_t place;   // of the break, if it is none
 };
 
 walk_end walk(const setting& where, std::size_t entry, std::uint64_t position, words tree);

@@ -1,7 +1,7 @@
 // Literal minimising: sizes first, over all rules and counts; then the real word lists of the candidates of equal size.
 //
-// No count is left out for lying past a window. A list of n members has at least n words, so a count can only be passed over once the members
-// alone cost more than a tree already found, or more than the limit. Both rest on nothing but that a tree has at least one word.
+// No count is left out for lying past a window. A list is given up at the first count after which the rule cannot be met any more, or once its
+// members alone cost as much as a tree already found, or as the limit; since every tree has a word at least, no greater count is then smaller.
 #include "least.hpp"
 
 #include <algorithm>
@@ -110,7 +110,7 @@ const std::vector<std::uint32_t>& least::tree(std::size_t entry, std::uint64_t p
         if (size != fewest) return;
         const node_fields node = node_of(root);
         std::vector<std::uint32_t> list{root};
-        for (part p : parts(node.rule, entry, position, node.rule <= 2 ? 0 : node.number)) {
+        for (part p : parts(node.rule, entry, position, node.number)) {
             const auto& below = tree(p.entry, p.position);
             list.insert(list.end(), below.begin(), below.end());
         }

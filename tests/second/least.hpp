@@ -33,6 +33,7 @@ private:
 
     template <class Visit> void candidates(std::size_t entry, std::uint64_t position, const std::uint64_t& bound, Visit visit);
     template <class Visit> void growing(std::uint32_t rule, std::size_t entry, std::uint64_t position, const std::uint64_t& bound, Visit visit);
+
     cell& at(std::size_t entry, std::uint64_t position) {
         if (position >= cells[entry].size()) extend(entry, position);
         return cells[entry][position];
@@ -45,7 +46,7 @@ private:
     const setting& where;
     const meaning& truth;
     const std::uint64_t limit;
-    std::vector<std::vector<cell>> cells;                                            // by entry and position
+    std::vector<std::vector<cell>> cells;                                             // by entry and position
     std::vector<std::unordered_map<std::uint64_t, std::vector<std::uint32_t>>> trees; // by entry and position
 };
 

@@ -75,7 +75,7 @@ answer engine::check(std::size_t entry, std::size_t position, words tree) const 
     if (const std::uint32_t number = asked_refusal(entry, position)) return {number};
     if (tree.size() > MAX_TREE) return {10};
     const walk_end end = walk(in->where, entry, position, tree);
-    return end.valid ? answer{0, 0, end.verdict, 0} : answer{9, end.place, 0, 0};
+    return end.verdict != 0 ? answer{0, 0, end.verdict, 0} : answer{9, end.place, 0, 0};
 }
 
 answer truth(words prefix, words loop, words table, std::size_t entry, std::size_t position, std::span<std::uint16_t> work) {

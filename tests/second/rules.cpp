@@ -54,7 +54,7 @@ std::vector<entry_fields> entries_of(words table) {
 
 std::uint32_t schedule_refusal(words prefix, words loop) {
     if (loop.empty()) return 1;
-    if (prefix.size() > MAX_LETTERS || loop.size() > MAX_LETTERS || prefix.size() + loop.size() > MAX_LETTERS) return 2;
+    if (prefix.size() + loop.size() > MAX_LETTERS) return 2; // lists that lie in memory: the sum cannot wrap
     return 0;
 }
 

@@ -7,10 +7,6 @@ namespace second {
 
 namespace {
 
-std::string text_of(const answer& a) {
-    return std::to_string(a.number) + " " + std::to_string(a.place) + " " + std::to_string(a.verdict) + " " + std::to_string(a.size);
-}
-
 // A buffer to lend, full of junk, with guards before and behind it.
 template <class Number> class buffer {
 public:
@@ -25,8 +21,8 @@ public:
         for (std::size_t k = 0; k < cells.size(); ++k) {
             const bool in_front = k >= GUARD && k - GUARD < front.size();
             const Number should = in_front ? front[k - GUARD] : found(k);
-            if (cells[k] != should)
-                return "cell " + std::to_string(std::int64_t(k) - std::int64_t(GUARD)) + " is " + std::to_string(cells[k]) + ", not " + std::to_string(should);
+            const std::int64_t cell = std::int64_t(k) - std::int64_t(GUARD);
+            if (cells[k] != should) return "cell " + std::to_string(cell) + " is " + std::to_string(cells[k]) + ", not " + std::to_string(should);
         }
         return {};
     }
@@ -86,13 +82,15 @@ bool program::offers(call what) const {
     return false;
 }
 
-std::string difference(const test_case& c, const program& p, std::uint32_t junk) {
+std::string difference(const test_case& c, const program& p, std::uint32_t junk) try {
     switch (c.what) {
     case call::check: return differing(p.check(c.prefix, c.loop, c.table, c.entry, c.position, c.tree), c.expected);
     case call::view: return view_difference(c, p);
     case call::explain: return text_difference(c, p);
     default: return lent_difference(c, p, junk);
     }
+} catch (const std::exception& e) {
+    return std::string("threw: ") + e.what();
 }
 
 } // namespace second

@@ -1,6 +1,8 @@
 // The shapes: what kind of schedule, table, question and call each of them makes.
 #include "shapes.hpp"
 
+#include "questions.hpp"
+
 #include <algorithm>
 #include <map>
 
@@ -8,95 +10,16 @@ namespace second {
 
 namespace {
 
-std::uint32_t entry(std::uint64_t kind, std::uint64_t left, std::uint64_t right) { return std::uint32_t(kind * 65536 + left * 256 + right); }
-
-// Letters over a few atoms, each atom rare, common, or anything between, so that long runs come up as well as quick changes.
-std::vector<std::uint32_t> letters(random_source& r, std::size_t count, std::size_t atoms) {
-    std::vector<std::uint32_t> list(count);
-    for (std::size_t a = 0; a < atoms; ++a) {
-        const std::uint64_t in_sixteen = r.pick({0, 1, 4, 8, 12, 15, 16});
-        for (std::uint32_t& letter : list)
-            if (r.below(16) < in_sixteen) letter |= 1u << a;
-    }
-    return list;
-}
-
-void schedule(test_case& c, random_source& r, std::size_t least_loop, std::size_t most_letters) {
-    const std::size_t all = r.between(least_loop, most_letters), loop = r.one_in(2) ? r.between(least_loop, all) : all - r.below(all - least_loop + 1);
-    const std::vector<std::uint32_t> both = letters(r, all, 3);
-    c.prefix.assign(both.begin(), both.end() - std::ptrdiff_t(loop));
-    c.loop.assign(both.end() - std::ptrdiff_t(loop), both.end());
-}
-
-// How likely each kind is, and how high the two heights of an entry may add up.
-struct mixture {
-    std::vector<std::uint64_t> kinds; // the kinds to choose from; one named twice comes twice as often
-    std::size_t heights = MAX_HEIGHTS;
-    std::uint64_t near = 4; // parts are among the last so many entries half of the time
-};
-
-const mixture ALL{{NOT, OR, AND, SINCE, UNTIL, SINCE, UNTIL}};
-const mixture PAST{{NOT, OR, AND, SINCE, SINCE, SINCE}};
-const mixture FUTURE{{NOT, OR, AND, UNTIL, UNTIL, UNTIL}};
-const mixture DEEP{{NOT, OR, SINCE, UNTIL, SINCE, UNTIL}, MAX_HEIGHTS, 2};
-const mixture SHARED{{OR, AND, SINCE, UNTIL}, MAX_HEIGHTS, 2};
-
-struct growing_table {
-    std::vector<std::uint32_t> words;
-    std::vector<std::size_t> past, future;
-
-    void add(std::uint32_t word) {
-        const entry_fields e = entry_of(word);
-        std::size_t p = 0, f = 0;
-        if (e.kind != ATOM) p = past[e.left], f = future[e.left];
-        if (e.kind >= OR) p = std::max(p, past[e.right]), f = std::max(f, future[e.right]);
-        words.push_back(word), past.push_back(p + (e.kind == SINCE)), future.push_back(f + (e.kind == UNTIL));
-    }
-
-    std::size_t heights(std::size_t k) const { return past[k] + future[k]; }
-
-    void drop() { words.pop_back(), past.pop_back(), future.pop_back(); }
-};
-
-growing_table random_table(random_source& r, std::size_t entries, const mixture& m) {
-    growing_table t;
-    const std::size_t atoms = std::min<std::size_t>(r.between(1, 3), entries);
-    for (std::size_t a = 0; a < atoms; ++a) t.add(entry(ATOM, a, 0));
-    while (t.words.size() < entries) {
-        const std::size_t k = t.words.size();
-        const auto part = [&] { return r.one_in(2) ? r.below(k) : k - 1 - r.below(std::min<std::uint64_t>(k, m.near)); };
-        const std::uint64_t kind = r.pick(m.kinds), left = part();
-        t.add(entry(kind, left, kind == NOT ? 0 : part()));
-        if (t.heights(k) > m.heights) t.drop();
-    }
-    return t;
-}
-
-void ask(test_case& c, random_source& r) {
-    const std::size_t last = c.table.size() - 1;
-    c.entry = r.one_in(2) ? last : r.below(last + 1);
-    c.position = r.one_in(3) ? r.below(256) : r.one_in(2) ? r.below(8) : r.below(c.prefix.size() + 2 * c.loop.size() + 1) % 256;
-    c.what = call(r.below(3));
-    c.work = MIN_WORK;
-    c.room = MAX_TREE;
-}
-
-void random_question(test_case& c, random_source& r, std::size_t most_letters, std::size_t most_entries, const mixture& m) {
-    schedule(c, r, 1, most_letters);
-    c.table = random_table(r, r.between(1, most_entries), m).words;
-    ask(c, r);
-}
-
 // Each later entry is made from those just before it: kind(k - 1, k - back).
 void chain(test_case& c, random_source& r, std::uint64_t kind, std::size_t back) {
-    schedule(c, r, 1, 6);
+    random_schedule(c, r, 1, 6);
     const std::size_t entries = r.one_in(3) ? MAX_ENTRIES : r.between(2, MAX_ENTRIES);
-    c.table = {entry(ATOM, r.below(3), 0)};
+    c.table = {entry_word(ATOM, r.below(3), 0)};
     while (c.table.size() < entries) {
         const std::size_t k = c.table.size();
-        c.table.push_back(entry(kind, k - 1, kind == NOT ? 0 : k - std::min(k, back)));
+        c.table.push_back(entry_word(kind, k - 1, kind == NOT ? 0 : k - std::min(k, back)));
     }
-    ask(c, r);
+    random_ask(c, r);
 }
 
 // A table whose last entry has two heights that add up to exactly so many.
@@ -107,7 +30,7 @@ void heights_exactly(test_case& c, random_source& r, std::size_t heights) {
     while (t.words.size() < MAX_ENTRIES && t.heights(t.words.size() - 1) != heights) {
         const std::size_t k = t.words.size(), left = r.one_in(3) ? r.below(k) : k - 1;
         const std::uint64_t kind = r.pick({NOT, OR, SINCE, UNTIL});
-        t.add(entry(kind, left, kind == NOT ? 0 : k - 1));
+        t.add(entry_word(kind, left, kind == NOT ? 0 : k - 1));
         if (t.heights(k) > heights) t.drop();
     }
     c.table = t.words;
@@ -117,12 +40,24 @@ void heights_exactly(test_case& c, random_source& r, std::size_t heights) {
 
 // The dearest inputs: 48 letters, 32 entries with as many operators of time as the heights allow, often at the last position.
 void full(test_case& c, random_source& r) {
-    schedule(c, r, 1, MAX_LETTERS);
+    random_schedule(c, r, 1, MAX_LETTERS);
     while (c.prefix.size() + c.loop.size() < MAX_LETTERS) (r.one_in(2) ? c.prefix : c.loop).push_back(std::uint32_t(r.below(8)));
-    c.table = random_table(r, MAX_ENTRIES, r.one_in(2) ? ALL : r.one_in(2) ? PAST : FUTURE).words;
-    ask(c, r);
-    c.entry = r.between(MAX_ENTRIES - 4, MAX_ENTRIES - 1);
+    c.table = random_table(r, MAX_ENTRIES, r.one_in(2) ? ALL : r.one_in(2) ? PAST : FUTURE);
+    demanding_ask(c, r);
     if (r.one_in(2)) c.position = MAX_POSITION;
+}
+
+// Of some questions the one with the largest tree.
+void demanding(test_case& c, random_source& r) {
+    std::uint32_t largest = 0;
+    for (int tries = 0; tries < 8; ++tries) {
+        test_case drawn;
+        random_schedule(drawn, r, 1, r.one_in(4) ? MAX_LETTERS : 16);
+        const mixture& kinds = r.one_in(2) ? ALL : r.one_in(2) ? PAST : FUTURE;
+        drawn.table = random_table(r, r.between(6, 20), kinds);
+        const std::uint32_t size = demanding_ask(drawn, r);
+        if (size >= largest) largest = size, c = drawn;
+    }
 }
 
 // Least sizes round 4,095. An odd size s comes from or(x, x) violated with x of (s - 1) / 2, an even one from and(x, x) violated with x of s - 1;
@@ -133,9 +68,9 @@ void size_by_halving(test_case& c, random_source& r) {
     for (std::uint64_t size = r.one_in(3) ? r.pick({4095, 4096}) : r.between(4080, 4110); size > 1; size = size % 2 ? (size - 1) / 2 : size - 1)
         kinds.push_back((size % 2 == 1) == holds ? AND : OR);
     c.loop = {holds ? 1u : 0u};
-    c.table = {entry(ATOM, 0, 0)};
-    for (std::size_t k = kinds.size(); k-- > 0;) c.table.push_back(entry(kinds[k], c.table.size() - 1, c.table.size() - 1));
-    ask(c, r);
+    c.table = {entry_word(ATOM, 0, 0)};
+    for (std::size_t k = kinds.size(); k-- > 0;) c.table.push_back(entry_word(kinds[k], c.table.size() - 1, c.table.size() - 1));
+    random_ask(c, r);
     c.entry = c.table.size() - 1;
 }
 
@@ -143,14 +78,15 @@ void size_by_halving(test_case& c, random_source& r) {
 void size_by_lists(test_case& c, random_source& r) {
     if (r.one_in(2)) {
         c.loop = {1};
-        c.table = {entry(ATOM, 0, 0), entry(ATOM, 1, 0), entry(SINCE, 0, 1), entry(OR, 2, 2), entry(OR, 3, 3), entry(OR, 4, 4), entry(OR, 5, 5)};
-        ask(c, r);
+        c.table = {entry_word(ATOM, 0, 0), entry_word(ATOM, 1, 0), entry_word(SINCE, 0, 1), entry_word(OR, 2, 2), entry_word(OR, 3, 3),
+                   entry_word(OR, 4, 4),   entry_word(OR, 5, 5)};
+        random_ask(c, r);
         c.position = r.between(250, 255);
     } else {
         c.prefix.assign(r.below(3), 1);
         c.loop.assign(r.between(13, 17), 1);
-        c.table = {entry(ATOM, 0, 0), entry(ATOM, 1, 0), entry(UNTIL, 0, 1), entry(UNTIL, 0, 2), entry(UNTIL, 0, 3)};
-        ask(c, r);
+        c.table = {entry_word(ATOM, 0, 0), entry_word(ATOM, 1, 0), entry_word(UNTIL, 0, 1), entry_word(UNTIL, 0, 2), entry_word(UNTIL, 0, 3)};
+        random_ask(c, r);
     }
     c.entry = c.table.size() - 1;
 }
@@ -163,13 +99,13 @@ void far_position(test_case& c, random_source& r) {
 void letters_at_the_edge(test_case& c, random_source& r) {
     random_question(c, r, 8, 8, ALL);
     const std::size_t all = r.between(47, 49), loop = r.pick({0, 1, 2, 24, all - 1, all});
-    c.prefix = letters(r, all - loop, 2);
-    c.loop = letters(r, loop, 2);
+    c.prefix = random_letters(r, all - loop, 2);
+    c.loop = random_letters(r, loop, 2);
 }
 
 void entries_at_the_edge(test_case& c, random_source& r) {
     random_question(c, r, 8, 8, ALL);
-    c.table = random_table(r, r.pick({0, 1, 31, 32, 33, 40}), ALL).words;
+    c.table = random_table(r, r.pick({0, 1, 31, 32, 33, 40}), ALL);
     c.entry = r.pick({0, 30, 31, 32, 33, c.table.size(), c.table.size() - 1, 4294967296, UINT64_MAX});
 }
 
@@ -177,12 +113,12 @@ void damage_table(test_case& c, random_source& r) {
     const std::size_t k = r.below(c.table.size());
     const entry_fields e = entry_of(c.table[k]);
     switch (r.below(8)) {
-    case 0: c.table[k] = entry(r.pick({6, 7, 11, 12, 255, 256, 65535}), e.left, e.right); break;
-    case 1: c.table[k] = entry(e.kind, r.pick({k, k + 1, 31, 32, 255}) % 256, e.right); break;
-    case 2: c.table[k] = entry(e.kind, e.left, r.pick({1, k, k + 1, 255}) % 256); break;
+    case 0: c.table[k] = entry_word(r.pick({6, 7, 11, 12, 255, 256, 65535}), e.left, e.right); break;
+    case 1: c.table[k] = entry_word(e.kind, r.pick({k, k + 1, 31, 32, 255}) % 256, e.right); break;
+    case 2: c.table[k] = entry_word(e.kind, e.left, r.pick({1, k, k + 1, 255}) % 256); break;
     case 3: c.table[k] = std::uint32_t(r.next()); break;
     case 4: c.table[k] ^= 1u << r.below(32); break;
-    case 5: c.table[0] = entry(r.between(1, 5), 0, 0); break;
+    case 5: c.table[0] = entry_word(r.between(1, 5), 0, 0); break;
     case 6: std::swap(c.table[k], c.table[r.below(c.table.size())]); break;
     case 7: c.table[k] = std::uint32_t(r.below(6 * 65536)); break;
     }
@@ -217,7 +153,10 @@ void several_wrong(test_case& c, random_source& r) {
         case 1: c.prefix.resize(49); break;
         case 2: c.table.resize(r.pick({0, 33})); break;
         case 3: if (!c.table.empty()) damage_table(c, r); break;
-        case 4: c.table = {entry(ATOM, 0, 0)}; for (std::size_t k = 0; k < 6; ++k) c.table.push_back(entry(r.one_in(2) ? SINCE : UNTIL, k, k)); break;
+        case 4:
+            c.table = {entry_word(ATOM, 0, 0)};
+            for (std::size_t k = 0; k < 6; ++k) c.table.push_back(entry_word(r.one_in(2) ? SINCE : UNTIL, k, k));
+            break;
         case 5: c.entry = r.between(30, 40); break;
         case 6: c.position = r.between(255, 300); break;
         case 7: c.work = r.between(16380, 16384); break;
@@ -227,7 +166,8 @@ void several_wrong(test_case& c, random_source& r) {
 }
 
 void tree_question(test_case& c, random_source& r) {
-    if (r.one_in(2)) random_question(c, r, 5, 7, ALL);
+    if (r.one_in(3)) demanding(c, r);
+    else if (r.one_in(2)) random_question(c, r, 5, 7, ALL);
     else random_question(c, r, 12, 16, r.one_in(2) ? PAST : FUTURE);
     c.what = call::check, c.work = 0, c.room = 0;
 }
@@ -250,14 +190,16 @@ void tree_of_another_place(test_case& c, random_source& r) {
 
 void random_words(test_case& c, random_source& r) {
     tree_question(c, r);
-    for (std::uint64_t left = r.below(6); left > 0; --left)
-        c.tree.push_back(r.one_in(4) ? std::uint32_t(r.next()) : word_of({std::uint32_t(r.between(1, 16)), r.one_in(3) ? 1u : 0u, std::uint32_t(r.below(3))}));
+    for (std::uint64_t left = r.below(6); left > 0; --left) {
+        const node_fields likely{std::uint32_t(r.between(1, 16)), r.one_in(3) ? 1u : 0u, std::uint32_t(r.below(3))};
+        c.tree.push_back(r.one_in(4) ? std::uint32_t(r.next()) : word_of(likely));
+    }
 }
 
 // An until with a far witness, and other trees of about 4,095 words, whole, one word short or one too long.
 void long_tree(test_case& c, random_source& r) {
     c.loop = {3};
-    c.table = {entry(ATOM, 0, 0), entry(ATOM, 1, 0), entry(UNTIL, 0, 1)};
+    c.table = {entry_word(ATOM, 0, 0), entry_word(ATOM, 1, 0), entry_word(UNTIL, 0, 1)};
     c.what = call::check, c.entry = 2, c.position = r.below(256);
     const std::uint32_t n = std::uint32_t(r.between(4088, 4096)), i = std::uint32_t(c.position);
     c.tree = {word_of({14, 0, n}), word_of({1, 1, i + n})};
@@ -267,7 +209,7 @@ void long_tree(test_case& c, random_source& r) {
 }
 
 void some_view(test_case& c, random_source& r) {
-    schedule(c, r, 0, r.one_in(5) ? 1000 : 6);
+    random_schedule(c, r, 0, r.one_in(5) ? 1000 : 6);
     c.what = call::view;
     c.position = r.one_in(3) ? r.next() : r.below(c.prefix.size() + 3 * c.loop.size() + 2);
 }
@@ -287,6 +229,19 @@ void damaged_text(test_case& c, random_source& r) {
     for (std::uint64_t left = r.between(1, 2); left > 0; --left) damage_text(c.text, r);
 }
 
+// What a call is not given is not printed, so a case that is read back has none of it.
+void forget_what_is_not_given(test_case& c) {
+    if (c.what == call::explain) {
+        test_case only;
+        only.what = c.what, only.text = c.text;
+        c = only;
+    }
+    if (c.what != call::check) c.tree.clear();
+    if (c.what == call::check || c.what == call::view) c.work = 0;
+    if (c.what != call::write) c.room = 0;
+    if (c.what == call::view) c.table.clear(), c.entry = 0;
+}
+
 using maker = std::function<void(test_case&, random_source&)>;
 
 const std::vector<std::pair<std::string, maker>> SHAPES = {
@@ -302,6 +257,7 @@ const std::vector<std::pair<std::string, maker>> SHAPES = {
     {"and-chain", [](test_case& c, random_source& r) { chain(c, r, r.one_in(2) ? AND : OR, 2); }},
     {"doubling-chain", [](test_case& c, random_source& r) { chain(c, r, r.one_in(2) ? AND : OR, 1); }},
     {"full", full},
+    {"demanding", demanding},
     {"heights-five", [](test_case& c, random_source& r) { heights_exactly(c, r, 5); }},
     {"heights-six", [](test_case& c, random_source& r) { heights_exactly(c, r, 6); }},
     {"size-by-halving", size_by_halving},
@@ -356,12 +312,7 @@ test_case case_of_shape(const std::string& shape, random_source& r) {
         if (name != shape) continue;
         test_case c;
         make(c, r);
-        // What a call is not given says nothing, and is not printed.
-        if (c.what == call::explain) { test_case only; only.what = c.what, only.text = c.text; c = only; }
-        if (c.what != call::check) c.tree.clear();
-        if (c.what == call::check || c.what == call::view) c.work = 0;
-        if (c.what != call::write) c.room = 0;
-        if (c.what == call::view) c.table.clear(), c.entry = 0;
+        forget_what_is_not_given(c);
         c.why = name;
         answer_case(c);
         return c;

@@ -9,7 +9,7 @@ namespace second {
 std::string test_meaning(random_source r) {
     tally t("meaning", {"inputs", "holds", "violated", "until holds", "until violated", "since holds", "since violated"}, {}, {});
     std::vector<std::uint16_t> work(MIN_WORK);
-    for (int k = 0; k < 1500; ++k) {
+    for (int k = 0; k < 6000; ++k) {
         random_source own(r.next());
         test_case c = case_of_shape(k % 3 == 0 ? "heights-five" : k % 3 == 1 ? "tiny" : "loop-of-one", own);
         c.what = call::truth, c.work = MIN_WORK, c.room = 0;

@@ -24,7 +24,8 @@ public:
         trees.clear();
         if (where.entries[entry].kind == SINCE) since(entry, i); else until(entry, i);
         if (trees.empty()) return {};
-        return *std::min_element(trees.begin(), trees.end(), [](const tree& a, const tree& b) { return a.size() != b.size() ? a.size() < b.size() : a < b; });
+        const auto smaller = [](const tree& a, const tree& b) { return a.size() != b.size() ? a.size() < b.size() : a < b; };
+        return *std::min_element(trees.begin(), trees.end(), smaller);
     }
 
 private:
@@ -52,7 +53,8 @@ private:
     }
 
     // Adds the tree of a rule with a first part, if it has one, and a list, if all of them have the verdict.
-    void add(std::uint32_t rule, std::uint32_t verdict, std::optional<std::size_t> first, std::uint64_t at, std::size_t list, std::uint64_t from, std::uint64_t to) {
+    void add(std::uint32_t rule, std::uint32_t verdict, std::optional<std::size_t> first, std::uint64_t at, std::size_t list, std::uint64_t from,
+             std::uint64_t to) {
         tree t{word_of({rule, 0, std::uint32_t(to - from)})};
         const auto part = [&](std::size_t entry, std::uint64_t position) {
             const tree& below = best.tree(entry, position);
@@ -81,7 +83,7 @@ struct row {
     const char* name;
 };
 
-const char A_6_AT_1[] = "find | 1;4,2;0,1,0/0,0,0/5,1,0/1,2,0/4,0,1/0,2,0/5,5,4 6 1 | 16384 | 0 0 2 9 | | the window of A's entry 6 reaches back to the past of 4";
+const char A_6_AT_1[] = "find | 1;4,2;0,1,0/0,0,0/5,1,0/1,2,0/4,0,1/0,2,0/5,5,4 6 1 | 16384 | 0 0 2 9 | | right has a past";
 const char B_2_AT_0[] = "find | ;1;0,0,0/0,1,0/5,0,1 2 0 | 16384 | 0 0 2 2 | | at the right side's threshold";
 const char BEFORE[] = "find | 1;1;0,0,0/0,1,0/5,0,1 2 0 | 16384 | 0 0 2 3 | | before the right side's threshold growing is right";
 const char LATER[] = "find | 1;3;0,0,0/0,1,0/5,0,1/2,1,2/5,0,3 4 0 | 16384 | 0 0 1 4 | | the second witness has cheaper parts";

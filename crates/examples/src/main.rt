@@ -1,6 +1,8 @@
 // Runs the measured examples and prints them, a line each. Its output is compared.
 use libc::STDOUT_FILENO;
-use rules::{Asked, Outcome, Side};
+use rules::Asked;
+use rules::Outcome;
+use rules::Side;
 ghost use Prim.Native.Nat.{_<_};
 
 fn text(bytes: &[u8]) {

@@ -108,7 +108,8 @@ pub fn decode(index: usize, word: u32) -> Entry
     pair(index, kind, left, right)
 }
 
-fn entry_at(words: &[u32], e: usize) -> Entry
+// The entry at an index of a table.
+pub fn entry_at(words: &[u32], e: usize) -> Entry
     ensures { λ r. ⌜ r ≡ entryAt (now (words .entry)) e ⌝ }
 {
     if e < words.len() {

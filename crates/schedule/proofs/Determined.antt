@@ -3,7 +3,7 @@
 use mathlib.Core.Path.{_≡_, refl, sym, ap, _∙_}
 use mathlib.Core.Logic.{by-cases}
 use mathlib.Core.List.{List}
-use Prim.Native.Nat.{ℕ, _-_, _%_}
+use Prim.Native.Nat.{ℕ, _/_, _%_, _^_}
 use native.Mathlib.Decide.{decLt}
 use native.Mathlib.Omega.{arith}
 use lib.ListN.{length}
@@ -36,18 +36,19 @@ module _ (u v : ℕ) where
 abbrev Same : RefT (List ℕ) → RefT (List ℕ) → Type 0
 Same part other = (now part ≡ now other) × (ptr part .0 ≡ ptr other .0) × (ptr part .1 ≡ ptr other .1)
 
-rest-one : (lent part other : RefT (List ℕ)) (from : ℕ) → Rest lent from part → Rest lent from other → Same part other
-rest-one lent part other from a b = (equal-one (a .letters) (b .letters), equal-one (a .block) (b .block), equal-one (a .offset) (b .offset))
+rest-one : {lent part other : RefT (List ℕ)} {from : ℕ} → Rest lent from part → Rest lent from other → Same part other
+rest-one a b = (equal-one (a .letters) (b .letters), equal-one (a .block) (b .block), equal-one (a .offset) (b .offset))
 
 pub view-one : (prefix loop part other : RefT (List ℕ)) (i : ℕ) → View prefix loop i part → View prefix loop i other → Same part other
 view-one prefix loop part other i w z =
     by-cases (decLt i (length (now prefix)))
-    (λ lt. rest-one prefix part other i (w .opening lt) (z .opening lt))
+    (λ lt. rest-one (w .opening lt) (z .opening lt))
     (λ ge. by-cases (decLt 0 (length (now loop)))
-      (λ some.
-          rest-one loop part other ((i - length (now prefix)) % length (now loop))
-          (w .looping (omega arith) some) (z .looping (omega arith) some))
-      (λ none. rest-one loop part other 0 (w .nothing (omega arith) (omega arith)) (z .nothing (omega arith) (omega arith))))
+    (λ some. rest-one (w .looping (omega arith) some) (z .looping (omega arith) some))
+    (λ none. rest-one (w .nothing (omega arith) (omega arith)) (z .nothing (omega arith) (omega arith))))
 
 pub letter-one : (prefix loop : List ℕ) (i a b : ℕ) → a ≡ letterAt prefix loop i → b ≡ letterAt prefix loop i → a ≡ b
 letter-one prefix loop i a b p q = equal-one p q
+
+pub bit-one : (letter atom a b : ℕ) → a ≡ letter / 2 ^ atom % 2 → b ≡ letter / 2 ^ atom % 2 → a ≡ b
+bit-one letter atom a b p q = equal-one p q

@@ -1,5 +1,6 @@
 // Schedules: the lengths of prefix and loop with the limits of the job, the letter view, and the letter at a position.
 ghost use mathlib.Core.Path.{_≡_};
+ghost use Prim.Native.Nat.{_/_, _%_, _^_};
 ghost use Rattle.schedule.specs.Lengths.{Makes};
 ghost use Rattle.schedule.specs.Letters.{View, letterAt};
 
@@ -18,7 +19,9 @@ pub enum Made {
 
 impl Schedule {
     pub const MAX_LETTERS: usize = 48;
+
     pub const MAX_ENTRIES: usize = 32;
+
     pub const MAX_HEIGHT: usize = 5;
 
     // The schedule of two lengths, or the first refusal that they earn.
@@ -61,4 +64,14 @@ pub fn letter<'a>(prefix: &'a [u32], again: &'a [u32], at: usize) -> u32
         return 0;
     }
     part[0]
+}
+
+// Bit of an atom in a letter: 1 if the atom holds in it, else 0. A letter has no atom past 31.
+pub fn bit(letter: u32, atom: usize) -> u32
+    ensures { λ r. ⌜ r ≡ letter / 2 ^ atom % 2 ⌝ }
+{
+    if 31 < atom {
+        return 0;
+    }
+    (letter >> atom) % 2
 }

@@ -5,3 +5,8 @@ pub mod Window
 pub mod Says
 pub mod Decided
 pub mod Computed
+pub mod Runs
+pub mod Sound
+pub mod Verdict
+pub mod Fails
+pub mod Complete

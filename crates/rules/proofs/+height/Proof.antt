@@ -56,8 +56,8 @@ module _ (t : ℕ) where
   -- the parts that the height goes down to
   goes-down : (c : lts.After-known-told (claims t) (height-at t) height.Post)
       → partsOf (c .before .before .before .before .before .before .args .side)
-        (entryAt (now (c .before .before .before .before .before .before .args .words)) (c .before .before .before .before .before .before .args .e))
-        ≡ Down (c .before .left .given .0 .0) (c .before .left .given .0 .1 .0) (c .before .left .given .0 .1 .1 .0)
+      (entryAt (now (c .before .before .before .before .before .before .args .words)) (c .before .before .before .before .before .before .args .e))
+      ≡ Down (c .before .left .given .0 .0) (c .before .left .given .0 .1 .0) (c .before .left .given .0 .1 .1 .0)
   goes-down c =
       let found = c .before .before .before in
       ap (partsOf _) (sym (found .before .entry-at .ensures)) ∙ sym (found .parts .ensures) ∙ c .before .left .given .1

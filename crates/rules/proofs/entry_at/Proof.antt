@@ -1,3 +1,5 @@
+-- `rules::entry_at` meets its contract: past the end the word 0 is decoded.
+-- Assumes nothing.
 use mathlib.Core.Path.{sym, ap, _∙_}
 use borrow.Author.Needs.{needs}
 use denote.Ref.{now}
@@ -5,31 +7,22 @@ use lib.ListN.{List·getD-eq-default}
 use Rattle.rules.specs.Entries.{entryOf}
 use Rattle.rules.proofs.entry_at.Statement.{statement}
 use Rattle.rules.proofs.entry_at.Tie as tie
-use Rattle.rules.proofs.entry_at.Reads as reads
-use Rattle.rules.proofs.entry_at.Lts as lts
-use Rattle.rules.proofs.decode.Reads as decode-reads
 
--- src/lib.rt:114:26
 mul-decode : tie.Need-mul-decode
 mul-decode c = search needs
 
--- src/lib.rt:114:26
 shared-slice-read-decode : tie.Need-shared-slice-read-decode
 shared-slice-read-decode c = search needs
 
--- src/lib.rt:114:9
 decode-requires : tie.Need-decode-requires
 decode-requires c κs = search needs
 
--- src/lib.rt:114:9
 returns : tie.Need-returns
 returns c = search needs
 
--- src/lib.rt:116:5
 decode-requires-2 : tie.Need-decode-requires-2
 decode-requires-2 c κs = search needs
 
--- src/lib.rt:110:1
 returns-2 : tie.Need-returns-2
 returns-2 c = c .decode2 .ensures ∙ ap (entryOf _) (sym (List·getD-eq-default (now (c .before .before .before .args .words)) 0 (c .before .if1 .left)))
 

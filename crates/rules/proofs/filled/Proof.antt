@@ -40,10 +40,11 @@ loop-less c = search needs
 loop-again : tie.Need-loop-again Inv-loop μ-loop
 loop-again c =
     let list = now (c .before .before .before .args .list) in
-    let e = c .before .before .loop .e in
-    (search needs,
+    let e = c .before .before .loop .e in (
+      search needs,
       ap (λ l. set l e (getD list e 0)) (c .before .before .loop .inv .1)
-      ∙ copied-more list (c .before .before .before .pre) e (c .before .loop-test .taken))
+          ∙ copied-more list (c .before .before .before .pre) e (c .before .loop-test .taken),
+    )
 
 returns : tie.Need-returns Inv-loop μ-loop
 returns c =

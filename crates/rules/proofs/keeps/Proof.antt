@@ -1,69 +1,53 @@
+-- `rules::keeps` meets its contract: a case a return.
+-- Assumes nothing.
 use mathlib.Core.Path.{sym, ap, _∙_}
 use borrow.Author.Needs.{needs}
 use Rattle.rules.specs.Entries.{kept}
 use Rattle.rules.proofs.keeps.Statement.{statement}
 use Rattle.rules.proofs.keeps.Tie as tie
-use Rattle.rules.proofs.keeps.Reads as reads
-use Rattle.rules.proofs.keeps.Lts as lts
-use Rattle.rules.proofs.decode.Reads as decode-reads
 
--- src/lib.rt:181:11
 decode-requires : tie.Need-decode-requires
 decode-requires c κs = search needs
 
--- src/lib.rt:182:27
 enum-told : tie.Need-enum-told
 enum-told c = search needs
 
--- src/lib.rt:183:26
 enum-told-2 : tie.Need-enum-told-2
 enum-told-2 c = search needs
 
--- src/lib.rt:184:28
 enum-told-3 : tie.Need-enum-told-3
 enum-told-3 c = search needs
 
--- src/lib.rt:185:29
 enum-told-4 : tie.Need-enum-told-4
 enum-told-4 c = search needs
 
--- src/lib.rt:186:31
 enum-told-5 : tie.Need-enum-told-5
 enum-told-5 c = search needs
 
--- src/lib.rt:187:31
 enum-told-6 : tie.Need-enum-told-6
 enum-told-6 c = search needs
 
--- src/lib.rt:188:26
 enum-told-7 : tie.Need-enum-told-7
 enum-told-7 c = search needs
 
--- src/lib.rt:178:1
 returns : tie.Need-returns
 returns c = ap kept (sym (c .enum-told .given .1) ∙ c .before .before .decode .ensures)
 
--- src/lib.rt:178:1
 returns-2 : tie.Need-returns-2
 returns-2 c = ap kept (sym (c .enum-told2 .given .1) ∙ c .before .before .decode .ensures)
 
--- src/lib.rt:178:1
 returns-3 : tie.Need-returns-3
 returns-3 c = ap kept (sym (c .enum-told3 .given .1) ∙ c .before .before .decode .ensures)
 
--- src/lib.rt:178:1
 returns-4 : tie.Need-returns-4
 returns-4 c = ap kept (sym (c .enum-told4 .given .1) ∙ c .before .before .decode .ensures)
 
--- src/lib.rt:178:1
 returns-5 : tie.Need-returns-5
 returns-5 c = ap kept (sym (c .enum-told5 .given .1) ∙ c .before .before .decode .ensures)
 
--- src/lib.rt:178:1
 returns-6 : tie.Need-returns-6
 returns-6 c = ap kept (sym (c .enum-told6 .given .1) ∙ c .before .before .decode .ensures)
 
--- src/lib.rt:178:1
 returns-7 : tie.Need-returns-7
 returns-7 c = ap kept (sym (c .enum-told7 .given .1) ∙ c .before .before .decode .ensures)
 

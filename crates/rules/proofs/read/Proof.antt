@@ -1,3 +1,5 @@
+-- `rules::read` meets its contract: a law a return.
+-- Assumes nothing.
 use mathlib.Core.Path.{refl, sym, ap, _∙_}
 use borrow.Author.Needs.{needs}
 use borrow.Author.Tests.{not-true, not-false}
@@ -5,51 +7,37 @@ use Rattle.rules.specs.Tables.{readFigures}
 use Rattle.rules.proofs.Refusals.{reads, read-none, read-many, read-broken, read-passes}
 use Rattle.rules.proofs.read.Statement.{statement}
 use Rattle.rules.proofs.read.Tie as tie
-use Rattle.rules.proofs.read.Reads as own
-use Rattle.rules.proofs.read.Lts as lts
-use Rattle.rules.proofs.all_keep.Reads as all-keep-reads
-use Rattle.rules.proofs.filled.Reads as filled-reads
-use Rattle.rules.proofs.refused.Reads as refused-reads
 
--- src/lib.rt:239:9
 refused-requires : tie.Need-refused-requires
 refused-requires c κs = search needs
 
--- src/lib.rt:239:9
 returns : tie.Need-returns
 returns c =
     reads _ 3 _ (read-none _ (c .before .if1 .taken)) (ap readFigures (c .refused .ensures .0)) (c .refused .ensures .1)
 
--- src/lib.rt:242:9
 refused-requires-2 : tie.Need-refused-requires-2
 refused-requires-2 c κs = search needs
 
--- src/lib.rt:242:9
 returns-2 : tie.Need-returns-2
 returns-2 c =
     reads _ 3 _ (read-many _ (c .before .before .if1 .left) (c .before .if2 .taken))
     (ap readFigures (c .refused2 .ensures .0)) (c .refused2 .ensures .1)
 
--- src/lib.rt:244:9
 all-keep-requires : tie.Need-all-keep-requires
 all-keep-requires c κs = search needs
 
--- src/lib.rt:245:9
 refused-requires-3 : tie.Need-refused-requires-3
 refused-requires-3 c κs = search needs
 
--- src/lib.rt:245:9
 returns-3 : tie.Need-returns-3
 returns-3 c =
     let kept = c .before .before in
     reads _ 4 _ (read-broken _ (kept .before .before .if1 .left) (kept .before .if2 .left) (sym (kept .all-keep .ensures) ∙ not-true _ (c .before .if3 .taken)))
     (ap readFigures (c .refused3 .ensures .0)) (c .refused3 .ensures .1)
 
--- src/lib.rt:249:16
 filled-requires : tie.Need-filled-requires
 filled-requires c κs = search needs
 
--- src/lib.rt:235:1
 returns-4 : tie.Need-returns-4
 returns-4 c =
     let kept = c .before .before in

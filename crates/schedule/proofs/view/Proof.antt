@@ -38,7 +38,7 @@ rem-from c = search needs
 -- past the prefix, with letters in the loop, the letter in force lies within the loop
 within : (c : tie.Else2)
     → (c .before .before .args .at - length (now (c .before .before .args .prefix))) % length (now (c .before .before .args .again))
-      < length (now (c .before .before .args .again))
+    < length (now (c .before .before .args .again))
 within c = mod-lt _ (pos-of-ne-zero (c .if2 .left))
 
 mul-result-2 : tie.Need-mul-result-2

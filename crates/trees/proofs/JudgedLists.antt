@@ -1,0 +1,134 @@
+-- The plan of rules 11 to 16 is right: a first part and a list, or a list alone, where the rule allows the count, else wrong.
+-- Assumes nothing.
+use mathlib.Core.Path.{_≡_, refl, sym, ap, _∙_}
+use mathlib.Core.Bool.{true, false≢true}
+use mathlib.Core.List.{List}
+use Prim.Native.Nat.{ℕ, _+_, _-_, _<_, _≤_}
+use native.Mathlib.Omega.{arith}
+use borrow.Author.Tests.{eqb-true, eqb-false, leb-true, leb-false}
+use lib.Dec.{eqb, leb}
+use Rattle.rules.specs.Formula.{height}
+use Rattle.rules.specs.Tables.{entryAt, formulaOf}
+use Rattle.rules.specs.declared.Side.the-variants.{Past}
+use Rattle.rules.proofs.Entries.{cond-elim, and-both}
+use Rattle.trees.specs.Nodes.{node}
+use Rattle.trees.specs.Rules.{Frame, claim, Rule}
+use Rattle.trees.specs.Rules.{rule11, rule12, rule13, rule14, rule15, rule16}
+use Rattle.trees.specs.Frames.{windowCount}
+use Rattle.trees.specs.Table.{ruleSign, ruleKind, ruleFixed}
+use Rattle.trees.specs.Plans.{within, leftOf, rightOf, signOf, fitsOf, listDemands, countPlan, windowOf, listPlan, claimsOf}
+use Rattle.trees.specs.Walks.{Judges, Earlier}
+use Rattle.trees.specs.declared.Verdict.{Verdict}
+use Rattle.trees.specs.declared.Verdict.the-variants.{Holds, Violated}
+use Rattle.trees.specs.declared.Plan.{Plan}
+use Rattle.trees.proofs.Table.{peel}
+use Rattle.trees.proofs.Words.{within-in}
+use Rattle.trees.proofs.Parts.{byKind, formula-kind, left-earlier, right-earlier}
+use Rattle.trees.proofs.Needs.{formulaRight, rule-numbers}
+use Rattle.trees.proofs.Judged.{fits-says, rule-fits, at-kind}
+
+module _ (letter : ℕ → ℕ) (u v : ℕ) (table : List ℕ) (e i : ℕ) (s : Verdict) (n : ℕ) (small : n < 65536) where
+  abbrev frame : Frame
+  frame = record { letter = letter; count = windowCount u v }
+
+  abbrev window : ℕ → ℕ
+  window k = windowOf k u v i (height Past (formulaOf table (rightOf (entryAt table e))))
+
+  abbrev plan : ℕ → Plan
+  plan k = countPlan k (leftOf (entryAt table e)) (rightOf (entryAt table e)) i n (window k) s
+
+  abbrev Right : ℕ → Type 0
+  Right k = fitsOf k (entryAt table e) s ≡ true → Judges frame table e i s (node k 0 n) (plan k)
+
+  -- the rule, from its own form; and its parts are near, since entries of two name earlier ones
+  module _ (k : ℕ) (h : fitsOf k (entryAt table e) s ≡ true) (first place member from : ℕ) where
+    ruled : (t : Verdict) → ruleSign k ≡ signOf t
+        → Rule frame (claim (byKind (ruleKind k) (formulaOf table) (leftOf (entryAt table e)) (rightOf (entryAt table e))) i t) (node k 0 n)
+          (claimsOf table (listDemands k first place member from n t))
+        → Rule frame (claim (formulaOf table e) i s) (node k 0 n) (claimsOf table (listDemands k first place member from n s))
+    ruled t =
+        at-kind table e i s k t (λ f t. Rule frame (claim f i t) (node k 0 n) (claimsOf table (listDemands k first place member from n t))) h
+
+    near : ruleFixed k ≤ 1 → first < e → member < e → place ≤ i + 65535 → from + n ≤ i + 65536
+        → Earlier e i (listDemands k first place member from n s)
+    near one a b c d = record { one = one; first = λ _. a; place = c; member = λ _. b; last = d }
+
+  module _ (k : ℕ) (h : fitsOf k (entryAt table e) s ≡ true) (two : 2 ≤ ruleKind k) where
+    left-near : leftOf (entryAt table e) < e
+    left-near = left-earlier table e (omega (arith, fits-says k (entryAt table e) s h .0))
+
+    right-near : rightOf (entryAt table e) < e
+    right-near = right-earlier table e (omega (arith, fits-says k (entryAt table e) s h .0))
+
+  right-11 : Right 11
+  unfolding countPlan
+  right-11 h =
+      cond-elim (Judges frame table e i s (node 11 0 n)) (leb n i)
+      (λ t.
+          let le = leb-true n i t in
+          (ruled 11 h _ (i - n) _ (i - n + 1) Holds refl (rule11 le),
+            near 11 h _ (i - n) _ (i - n + 1) (omega arith) (right-near 11 h (omega arith)) (left-near 11 h (omega arith)) (omega arith) (omega arith)))
+      (λ f needs r. omega (arith, leb-false n i f, rule-numbers r .count11 refl))
+
+  right-12 : Right 12
+  unfolding countPlan
+  right-12 h =
+      cond-elim (Judges frame table e i s (node 12 0 n)) (within 1 (i + 1) n)
+      (λ t.
+          let both = and-both (leb 1 n) (leb n (i + 1)) t in
+          let some = leb-true 1 n (both .0) in
+          let le = leb-true n (i + 1) (both .1) in
+          (ruled 12 h _ (i + 1 - n) _ (i + 1 - n) Violated refl (rule12 some le),
+            near 12 h _ (i + 1 - n) _ (i + 1 - n) (omega arith) (left-near 12 h (omega arith)) (right-near 12 h (omega arith)) (omega arith) (omega arith)))
+      (λ f needs r.
+          let allowed = rule-numbers r .count12 refl in
+          false≢true (sym f ∙ within-in 1 (i + 1) n (allowed .0) (allowed .1)))
+
+  right-13 : Right 13
+  unfolding countPlan
+  right-13 h =
+      cond-elim (Judges frame table e i s (node 13 0 n)) (eqb n (i + 1))
+      (λ t.
+          let all = eqb-true n (i + 1) t in
+          (ruled 13 h (leftOf (entryAt table e)) 0 _ 0 Violated refl (rule13 all),
+            near 13 h _ 0 _ 0 (omega arith) (left-near 13 h (omega arith)) (right-near 13 h (omega arith)) (omega arith) (omega arith)))
+      (λ f needs r. eqb-false n (i + 1) f (rule-numbers r .count13 refl))
+
+  right-14 : Right 14
+  unfolding countPlan
+  right-14 h =
+      (ruled 14 h _ (i + n) _ i Holds refl rule14,
+        near 14 h _ (i + n) _ i (omega arith) (right-near 14 h (omega arith)) (left-near 14 h (omega arith)) (omega arith) (omega arith))
+
+  right-15 : Right 15
+  unfolding countPlan
+  right-15 h =
+      cond-elim (Judges frame table e i s (node 15 0 n)) (leb 1 n)
+      (λ t.
+          let some = leb-true 1 n t in
+          (ruled 15 h _ (i + n - 1) _ i Violated refl (rule15 some),
+            near 15 h _ (i + n - 1) _ i (omega arith) (left-near 15 h (omega arith)) (right-near 15 h (omega arith)) (omega arith) (omega arith)))
+      (λ f needs r. omega (arith, leb-false 1 n f, rule-numbers r .count15 refl))
+
+  right-16 : Right 16
+  unfolding countPlan windowOf
+  right-16 h =
+      cond-elim (Judges frame table e i s (node 16 0 n)) (eqb n (window 16))
+      (λ t.
+          let all = eqb-true n (window 16) t in
+          (ruled 16 h (leftOf (entryAt table e)) 0 _ i Violated refl (rule16 all),
+            near 16 h _ 0 _ i (omega arith) (left-near 16 h (omega arith)) (right-near 16 h (omega arith)) (omega arith) (omega arith)))
+      (λ f needs r.
+          let right = ap formulaRight (formula-kind table e 5 (sym (fits-says 16 (entryAt table e) s h .0))) in
+          eqb-false n (window 16) f (rule-numbers r .count16 refl ∙ ap (λ g. windowCount u v i (height Past g)) right))
+
+  pub judged-list : (k : ℕ) → 11 ≤ k → k ≤ 16 → Judges frame table e i s (node k 0 n) (listPlan u v table (entryAt table e) i s k n)
+  unfolding listPlan
+  judged-list k low high =
+      cond-elim (Judges frame table e i s (node k 0 n)) (fitsOf k (entryAt table e) s) right
+      (λ f needs r. false≢true (sym f ∙ rule-fits table e i s r))
+    where
+      right : Right k
+      right =
+          peel Right 11 k low right-11 (λ l. peel Right 12 k l right-12 (λ l. peel Right 13 k l right-13 (λ l. peel Right 14 k l right-14
+          (λ l. peel Right 15 k l right-15 (λ l. peel Right 16 k l right-16 (λ l. absurd (omega arith)))))))

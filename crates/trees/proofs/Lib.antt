@@ -1,0 +1,14 @@
+pub mod Table
+pub mod Words
+pub mod Plans
+pub mod Parts
+pub mod Needs
+pub mod Forests
+pub mod Places
+pub mod Laid
+pub mod Judged
+pub mod JudgedPlain
+pub mod JudgedAtoms
+pub mod JudgedLists
+pub mod JudgedNodes
+pub mod Beginnings

@@ -1,0 +1,9 @@
+pub mod Nodes
+pub mod Rules
+pub mod Trees
+pub mod Place
+pub mod Frames
+pub mod Table
+pub mod Plans
+pub mod Walks
+pub mod Least

@@ -1,0 +1,2 @@
+# check.cpp: positions are counted in 16 bits.
+s/node\.number != i)/node.number != i % 65536)/
