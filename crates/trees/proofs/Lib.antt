@@ -11,4 +11,6 @@ pub mod JudgedPlain
 pub mod JudgedAtoms
 pub mod JudgedLists
 pub mod JudgedNodes
+pub mod Claims
+pub mod Walked
 pub mod Beginnings
