@@ -7,15 +7,17 @@ use Prim.Native.Nat.{ℕ, _+_, _-_, _/_, _%_, _^_, _<_, _≤_}
 use native.Mathlib.Omega.{arith}
 use borrow.Author.Tests.{eq-eqb, ne-eqb, le-leb, lt-leb, lt-ltb, le-ltb}
 use lib.Dec.{eqb, leb}
+use lib.ListN.{List·getD-eq-default}
 use Rattle.rules.specs.Formula.{height}
 use Rattle.rules.specs.Tables.{formulaOf}
 use Rattle.rules.specs.declared.Side.the-variants.{Past}
 use Rattle.rules.specs.declared.Entry.{Entry}
 use Rattle.trees.specs.Frames.{windowCount}
-use Rattle.trees.specs.Table.{ruleSign, ruleKind, ruleFixed}
+use Rattle.trees.specs.Table.{signs, ruleSign, ruleKind, ruleFixed}
 use Rattle.trees.specs.Plans.{kindOf, leftOf, rightOf, signOf, turned, fitsOf, firstOf, verdictOf, leaf, atomPlan, plainPlan, listDemands}
-use Rattle.trees.specs.Plans.{countPlan, windowOf, listPlan, partOf}
+use Rattle.trees.specs.Plans.{countPlan, windowOf, listPlan, partOf, claimedBy}
 use Rattle.trees.specs.declared.Verdict.{Verdict}
+use Rattle.trees.specs.declared.Verdict.the-variants.{Holds, Violated}
 use Rattle.trees.specs.declared.Demands.{Demands}
 use Rattle.trees.specs.declared.Part.{Part}
 use Rattle.trees.specs.declared.Plan.{Plan}
@@ -154,3 +156,21 @@ module _ (u v : ℕ) (table : List ℕ) (x : Entry) (i : ℕ) (s : Verdict) (r n
   list-fits p l t w f a b c d =
       let e = c ∙ ap (λ k. windowOf r u v i (height Past (formulaOf table k))) b in
       d ∙ (λ j. countPlan r (a j) (b j) i n (e j) s) ∙ simp f
+
+-- the claimed verdict of a word whose rule number is r
+module _ (w r : ℕ) (rule : w / 16777216 ≡ r) where
+  by-rule : cond (eqb (ruleSign r) 1) Holds Violated ≡ claimedBy w
+  unfolding claimedBy
+  by-rule = ap (λ k. cond (eqb (ruleSign k) 1) Holds Violated) (sym rule)
+
+  pub claimed-none : r ≡ 0 → Holds ≡ claimedBy w
+  claimed-none e = ap (λ k. cond (eqb (ruleSign k) 1) Holds Violated) (sym e) ∙ by-rule
+
+  pub claimed-past : 16 < r → Violated ≡ claimedBy w
+  claimed-past lt = ap (λ k. cond (eqb k 1) Holds Violated) (sym (List·getD-eq-default signs 0 {n = r - 1} (omega arith))) ∙ by-rule
+
+  pub claimed-holds : (n : ℕ) → n ≡ ruleSign r → n ≡ 1 → Holds ≡ claimedBy w
+  claimed-holds n p e = ap (λ k. cond (eqb k 1) Holds Violated) (sym e ∙ p) ∙ by-rule
+
+  pub claimed-violated : (n : ℕ) → n ≡ ruleSign r → (n ≡ 1 → ⊥) → Violated ≡ claimedBy w
+  claimed-violated n p m = ap (λ t. cond t Holds Violated) (sym (ne-eqb n 1 m)) ∙ ap (λ k. cond (eqb k 1) Holds Violated) p ∙ by-rule

@@ -73,6 +73,10 @@ turned Violated = Holds
 unfoldable pub fitsOf : ℕ → Entry → Verdict → Bool
 fitsOf r x s = eqb (ruleKind r) (kindOf x) && eqb (ruleSign r) (signOf s)
 
+-- The verdict that a root's rule claims. (A number that is no rule claims nothing; its node is wrong for either verdict.)
+unfoldable pub claimedBy : ℕ → Verdict
+claimedBy w = cond (eqb (ruleSign (w / 16777216)) 1) Holds Violated
+
 -- A node of no parts.
 abbrev pub leaf : Verdict → Demands
 leaf s = record { fixed = 0; first = 0; place = 0; member = 0; from = 0; count = 0; verdict = s }

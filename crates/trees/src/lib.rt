@@ -13,7 +13,7 @@ ghost use Rattle.trees.specs.Nodes.{nodeOf};
 ghost use Rattle.trees.specs.Rules.{claim};
 ghost use Rattle.trees.specs.Frames.{scheduleFrame};
 ghost use Rattle.trees.specs.Table.{ruleSign, ruleKind, ruleFixed};
-ghost use Rattle.trees.specs.Plans.{wordFrom, wordOf, kindOf, leftOf, rightOf, signOf, turned, fitsOf, firstOf, verdictOf, atomPlan, plainPlan, countPlan, windowOf, Counts, listPlan, listDemands, partOf};
+ghost use Rattle.trees.specs.Plans.{wordFrom, wordOf, kindOf, leftOf, rightOf, signOf, turned, claimedBy, fitsOf, firstOf, verdictOf, atomPlan, plainPlan, countPlan, windowOf, Counts, listPlan, listDemands, partOf};
 ghost use Rattle.trees.specs.Walks.{Within, Judges, Walks};
 
 pub enum Verdict {
@@ -178,6 +178,23 @@ pub fn decode(word: u32) -> Word
         11..=16 => counted(rule, atom, number),
         _ => Word::Malformed,
     }
+}
+
+// The verdict that the rule of a root's word claims.
+pub fn claimed(word: u32) -> Verdict
+    ensures { λ r. ⌜ r ≡ claimedBy word ⌝ }
+{
+    let rule = (word / 16777216) as usize;
+    if rule == 0 {
+        return Verdict::Holds; // no rule: wrong for either verdict
+    }
+    if 16 < rule {
+        return Verdict::Violated;
+    }
+    if sign(rule) == 1 {
+        return Verdict::Holds;
+    }
+    Verdict::Violated
 }
 
 // Kind, then sign.

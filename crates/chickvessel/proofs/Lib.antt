@@ -1,0 +1,4 @@
+pub mod Accepting
+pub mod Limits
+pub mod Judging
+pub mod Determined

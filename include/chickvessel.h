@@ -1,0 +1,96 @@
+/* chickvessel.h: rules over schedules, and the trees that prove their verdicts. For C and C++; no other page is needed to call it.
+ *
+ * SCHEDULE  Letters without end, from two lists: the prefix once, then the loop for ever. With u letters in the prefix and v in the loop,
+ *           the letter at position i is prefix[i] if i < u, else loop[(i - u) % v]. Positions run from 0. Atom a, 0 to 31, holds in a
+ *           letter if bit a of it is set.
+ *
+ * TABLE     A list of entries. An entry is the word kind * 65536 + left * 256 + right.
+ *             kind       left            right           holds at i if
+ *             0  atom    atom, 0 to 31   0               the atom holds in the letter at i
+ *             1  not     earlier entry   0               left does not hold at i
+ *             2  or      earlier entry   earlier entry   left or right holds at i, or both
+ *             3  and     earlier entry   earlier entry   left and right hold at i
+ *             4  since   earlier entry   earlier entry   right holds at some j <= i, and left at every k with j < k <= i
+ *             5  until   earlier entry   earlier entry   right holds at some j >= i, and left at every k with i <= k < j
+ *           An earlier entry has a smaller index; left and right may be the same one. Where an entry does not hold it is violated.
+ *           An entry's past height is the greatest past height of its parts, plus 1 for since; its future height is the greatest future
+ *           height of its parts, plus 1 for until; an atom has 0 and 0.
+ *
+ * TREE      A list of words, a word a node: the node, its fixed parts, then its list members by rising position, each with all that is
+ *           below it. A word is rule * 16777216 + atom * 65536 + number. For rules 1 and 2 the atom is the entry's and the number is the
+ *           position i; for 11 to 16 the number is the count n of list members; every other field is 0.
+ *             rule   proves at i      fixed parts                     list members                      count
+ *              1     atom  holds      none: bit of the letter set     none
+ *              2     atom  violated   none: bit of the letter clear   none
+ *              3     not   holds      left violated at i              none
+ *              4     not   violated   left holds at i                 none
+ *              5     or    holds      left holds at i                 none
+ *              6     or    holds      right holds at i                none
+ *              7     or    violated   left, then right, violated      none
+ *              8     and   holds      left, then right, hold at i     none
+ *              9     and   violated   left violated at i              none
+ *             10     and   violated   right violated at i             none
+ *             11     since holds      right holds at i - n            left holds at i-n+1 to i          0 <= n <= i
+ *             12     since violated   left violated at i - n + 1      right violated at i-n+1 to i      1 <= n <= i + 1
+ *             13     since violated   none                            right violated at 0 to i          n = i + 1
+ *             14     until holds      right holds at i + n            left holds at i to i+n-1          0 <= n
+ *             15     until violated   left violated at i + n - 1      right violated at i to i+n-1      1 <= n
+ *             16     until violated   none                            right violated at i to m+v-1      n = m + v - i
+ *           where m is the larger of i and u + v * (past height of right). Every part is a tree of its own for its entry, position and
+ *           verdict. Positions are exact: they may pass 255 and never wrap, so what a word cannot carry (an atom's position above
+ *           65535) is no tree. */
+#ifndef CHICKVESSEL_H
+#define CHICKVESSEL_H
+
+#include <stddef.h>
+#include <stdint.h>
+
+#ifdef __cplusplus
+extern "C" {
+#endif
+
+/* The answer of every call. A call says which refusals it gives, and gives the first that applies.
+ *    1  the loop is empty
+ *    2  more than 48 letters in prefix and loop together
+ *    3  no entry, or more than 32
+ *    4  some entry breaks the kind table
+ *    5  some entry's past height and future height add up to more than 5
+ *    6  the asked entry is not in the table
+ *    7  the asked position is above 255
+ *    9  the words are no valid tree
+ *   10  more than 4095 words */
+typedef struct {
+    uint32_t number;  /* 0, or the refusal */
+    uint32_t place;   /* of refusal 9; else 0 */
+    uint32_t verdict; /* 1 holds, 2 violated; 0 in a refusal */
+    uint32_t size;    /* in words, from calls that find one; else 0 */
+} chickvessel_answer;
+
+/* chickvessel_check: whether the words of tree are a valid tree for an entry at a position, and which verdict it proves.
+ * Read:    prefix and loop, the letters; table, the entries; tree, the words: each list as far as its length (in elements, not bytes) and
+ *          never written. entry, the index of the asked entry; position, the asked position. Both are size_t and are not cut down: one of
+ *          4294967296 is refused, not taken for 0. A null pointer with length 0 is an empty list. Lists may overlap.
+ * Refused: by the first that applies, in the order 1 2 3 4 5 6 7 10 9. Refusals 4 and 5 look at every entry, asked or not.
+ *                     number  place  verdict               size
+ *          valid      0       0      1 holds, 2 violated   0
+ *          1 to 7     itself  0      0                     0
+ *          10         10      0      0                     0
+ *          9          9       below  0                     0
+ * Place:   of refusal 9, an index into tree: of the first word, in tree order, that breaks a rule of its own node (its form, its kind, its
+ *          verdict where a part needs one, its count, its position, the letter); tree_len if a word is missing; the first word left over
+ *          if the tree ends before the list does. A count is not held against the words behind it: too large a count that is otherwise
+ *          allowed shows where the words run out. An empty tree has place 0.
+ * Verdict: the root's rule claims it. It is the true one: no valid tree proves a verdict that the entry does not have at the position.
+ * Size:    0, also for a valid tree; its size is tree_len.
+ * Time:    by the words of the tree. Heights are worked out by following an entry's parts down, for every entry once and for each node of
+ *          rule 16 once more, which on a table of 32 entries and(k - 1, k - 2) is millions of steps each time.
+ * Keeps no pointer, allocates nothing, has no state: calls may run at once, on the same lists too. Fits in 16 KiB of stack. */
+chickvessel_answer chickvessel_check(const uint32_t *prefix, size_t prefix_len, const uint32_t *loop, size_t loop_len,
+                                     const uint32_t *table, size_t table_len, size_t entry, size_t position,
+                                     const uint32_t *tree, size_t tree_len);
+
+#ifdef __cplusplus
+}
+#endif
+
+#endif
