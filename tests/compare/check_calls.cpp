@@ -1,7 +1,8 @@
-// Random check calls: questions of all shapes with valid trees, and each of these calls changed in every way.
+// Random check calls: each one drawn, then changed in every way, against the reference's answers.
 #include "comparison.hpp"
 
 #include "changes.hpp"
+#include "check_shapes.hpp"
 #include "library.hpp"
 #include "shapes.hpp"
 #include "tally.hpp"
@@ -14,32 +15,27 @@ using namespace second;
 
 constexpr std::uint64_t LEAST_CALLS = 100000;
 
-// On a chain of and(k - 1, k - 2) the heights alone take a call up to a tenth of a second, so it comes up seldom.
-std::size_t draws_of(const std::string& shape) { return shape == "and-chain" ? 8 : 320; }
-
-bool has_check(const std::string& shape) { return shape != "view" && shape != "text" && shape != "damaged-text"; }
-
-bool question_refused(const test_case& c) { return check(c.prefix, c.loop, c.table, c.entry, c.position, {}).number != 9; }
-
-// A case as a check call: with a valid tree, if the question is not refused whatever the tree.
-void make_check(test_case& c, random_source& r) {
-    if (c.what == call::check) return;
-    c.what = call::check, c.work = c.room = 0, c.written.clear();
-    if (question_refused(c)) c.tree.resize(r.pick({0, 1, 4095, 4096}));
-    else c.tree = random_tree(c, r);
-}
-
 std::string size_class(std::size_t words) {
     return words < 10 ? "of 1 to 9 words" : words < 100 ? "of 10 to 99" : words < 1000 ? "of 100 to 999" : words < MAX_TREE ? "of 1000 to 4094" : "of 4095";
 }
 
-// Which way a tree breaks off.
+// In which way the words are no tree.
 std::string break_class(const test_case& c) {
     const std::size_t place = c.expected.place;
     if (place == c.tree.size()) return "missing word";
     if (place == 0) return "wrong root";
     const bool ended = check(c.prefix, c.loop, c.table, c.entry, c.position, words(c.tree).first(place)).number == 0;
     return ended ? "word left over" : "wrong part";
+}
+
+tally everything_to_meet() {
+    std::vector<std::string> must = {
+        "calls", "prefix null", "loop null", "table null", "tree null", "entry the largest", "position the largest",
+        "accepted", "accepted of 1 to 9 words", "accepted of 10 to 99", "accepted of 100 to 999", "accepted of 1000 to 4094", "accepted of 4095",
+        "wrong root", "wrong part", "missing word", "word left over",
+    };
+    for (const change& made : CHANGES) must.push_back(made.name);
+    return tally("check", must, {1, 2, 3, 4, 5, 6, 7, 9, 10}, {1, 2, 3, 4, 5, 6, 7, 8, 9, 10, 11, 12, 13, 14, 15, 16});
 }
 
 void count(const test_case& c, tally& t) {
@@ -58,30 +54,21 @@ void count(const test_case& c, tally& t) {
 } // namespace
 
 std::string check_calls(random_source r) {
-    std::vector<std::string> must = {
-        "calls", "prefix null", "loop null", "table null", "tree null", "entry the largest", "position the largest",
-        "accepted", "accepted of 1 to 9 words", "accepted of 10 to 99", "accepted of 100 to 999", "accepted of 1000 to 4094", "accepted of 4095",
-        "wrong root", "wrong part", "missing word", "word left over",
-    };
-    for (const change& made : CHANGES) must.push_back(made.name);
-    tally t("check", must, {1, 2, 3, 4, 5, 6, 7, 9, 10}, {1, 2, 3, 4, 5, 6, 7, 8, 9, 10, 11, 12, 13, 14, 15, 16});
+    tally t = everything_to_meet();
     std::uint64_t calls = 0;
-    for (const std::string& shape : shape_names()) {
-        if (!has_check(shape)) continue;
-        for (std::size_t draws = draws_of(shape); draws > 0; --draws) {
-            random_source own(r.next());
-            test_case drawn = case_of_shape(shape, own);
-            make_check(drawn, own);
+    for (const check_shape& shape : check_shapes())
+        for (std::size_t k = 0; k < shape.draws; ++k) {
+            random_source own(r.next()); // a source a draw: none depends on those before it
+            const test_case drawn = shape.draw(own);
             for (const change& made : CHANGES) {
                 test_case c = drawn;
                 if (!made.make(c, own)) continue;
-                c.where = "check of shape " + shape + ", " + made.name;
+                c.where = "check of shape " + shape.name + ", " + made.name;
                 answer_case(c);
                 hold(c, 0);
                 count(c, t), t.met(made.name), ++calls;
             }
         }
-    }
     if (calls < LEAST_CALLS) throw failure("check: only " + std::to_string(calls) + " calls");
     return t.line();
 }

@@ -61,7 +61,7 @@ fn refused(outcome: Outcome) -> Accepted
             again: 0,
         },
         table: Table {
-            words: [0u32; 32],
+            words: [0u32; Schedule::MAX_ENTRIES],
             len: 0,
         },
     }

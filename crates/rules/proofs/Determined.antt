@@ -8,7 +8,7 @@ use Rattle.schedule.specs.Figures.{Figures, bare}
 use Rattle.schedule.proofs.Determined.{equal-one}
 use Rattle.rules.specs.Formula.{height}
 use Rattle.rules.specs.Entries.{entryOf}
-use Rattle.rules.specs.Tables.{formulaOf, readFigures, Reads}
+use Rattle.rules.specs.Tables.{entryAt, formulaOf, readFigures, Reads}
 use Rattle.rules.specs.Asked.{askRefusal, askedFigures}
 use Rattle.rules.specs.declared.Side.{Side}
 use Rattle.rules.specs.declared.Entry.{Entry}
@@ -55,3 +55,6 @@ one-asked Asking Asking e = refl
 pub ask-one : (table : List ℕ) (e : ℕ) (a b : Asked)
     → askedFigures a ≡ bare (askRefusal table e) → askedFigures b ≡ bare (askRefusal table e) → a ≡ b
 ask-one table e a b p q = one-asked a b (ap (λ f. f .number) (equal-one p q))
+
+pub entry-at-one : (table : List ℕ) (e : ℕ) (a b : Entry) → a ≡ entryAt table e → b ≡ entryAt table e → a ≡ b
+entry-at-one table e a b p q = equal-one p q

@@ -33,7 +33,7 @@ pub enum Entry {
 
 // A table once read: its entries and their count.
 pub struct Table {
-    pub words: [u32; 32],
+    pub words: [u32; Schedule::MAX_ENTRIES],
     pub len: usize,
 }
 
@@ -208,7 +208,7 @@ fn filled(list: &[u32]) -> Table
     requires { ⌜ length (now list) ≤ maxEntries ⌝ }
     ensures { λ r. ⌜ r ≡ tableOf (now (list .entry)) ⌝ }
 {
-    let mut words = [0u32; 32];
+    let mut words = [0u32; Schedule::MAX_ENTRIES];
     let mut e = 0;
     while e < list.len() {
         words[e] = list[e];
@@ -226,7 +226,7 @@ fn refused(outcome: Outcome) -> Reading
     Reading {
         outcome,
         table: Table {
-            words: [0u32; 32],
+            words: [0u32; Schedule::MAX_ENTRIES],
             len: 0,
         },
     }
