@@ -73,7 +73,7 @@ module _ (prefix loop list : List ℕ) (e i : ℕ) (words : List ℕ) where
   -- Asked within the limits, words are answered with a verdict exactly if they are a valid tree of that verdict.
   pub accepted-valid : questionRefusal (length prefix) (length loop) list e i ≡ 0 → length words ≤ maxWords
       → (v : Verdict) → Checked prefix loop list e i words (figures 0 0 (signOf v) 0)
-        ↔ Tree (scheduleFrame prefix loop) (claim (formulaOf list e) i v) (map nodeOf words)
+      ↔ Tree (scheduleFrame prefix loop) (claim (formulaOf list e) i v) (map nodeOf words)
   accepted-valid none short v = (accepted, λ t. judged none short (valid v t))
     where
       judged-valid : {r : Figures} → Judgement (scheduleFrame prefix loop) (formulaOf list e) i words r → r ≡ figures 0 0 (signOf v) 0

@@ -1,7 +1,10 @@
 // The public entry points: what is asked is judged first, by one function for all of them, and every answer comes from one enum.
-use rules::{Asked, Table};
-use schedule::{Made, Schedule};
-use trees::{Step, Verdict};
+use rules::Asked;
+use rules::Table;
+use schedule::Made;
+use schedule::Schedule;
+use trees::Step;
+use trees::Verdict;
 ghost use mathlib.Core.Path.{_≡_};
 ghost use mathlib.Core.Bool.{true, false};
 ghost use Prim.Native.Nat.{_≤_, _<_};
@@ -17,6 +20,7 @@ ghost use Rattle.chickvessel.specs.Checked.{Judgement, Checked};
 
 // The largest position that can be asked, and the most words of a tree.
 const MAX_POSITION: usize = 255;
+
 const MAX_WORDS: usize = 4095;
 
 // Every answer of every entry point: a refusal, or a verdict with a size.
@@ -99,7 +103,7 @@ fn accept_entry(lengths: Schedule, table: Table, entry: usize, position: usize) 
 // Refusals 3 and 4, then the entry.
 fn accept_table(lengths: Schedule, list: &[u32], entry: usize, position: usize) -> Accepted
     ensures { λ r. ⌜ Hands (orElse (readRefusal (now (list .entry))) (orElse (askRefusal (now (list .entry)) entry) (farRefusal position)))
-      lengths (tableOf (now (list .entry))) r ⌝ }
+        lengths (tableOf (now (list .entry))) r ⌝ }
 {
     let reading = rules::read(list);
     let outcome = reading.outcome;
@@ -114,7 +118,7 @@ fn accept_table(lengths: Schedule, list: &[u32], entry: usize, position: usize) 
 // Refusals 1 to 7 in order, or the lengths and the table of a question that every entry point can go on with.
 fn accept(prefix: usize, again: usize, list: &[u32], entry: usize, position: usize) -> Accepted
     ensures { λ r. ⌜ Hands (questionRefusal prefix again (now (list .entry)) entry position)
-      (record { prefix = prefix; again = again }) (tableOf (now (list .entry))) r ⌝ }
+        (record { prefix = prefix; again = again }) (tableOf (now (list .entry))) r ⌝ }
 {
     match Schedule::new(prefix, again) {
         Made::EmptyLoop => refused(Outcome::EmptyLoop),
@@ -124,10 +128,17 @@ fn accept(prefix: usize, again: usize, list: &[u32], entry: usize, position: usi
 }
 
 // Words that are judged: the verdict of a valid tree, or the place where they break off from being one.
-fn judge<'a>(prefix: &'a [u32], again: &'a [u32], table: &[u32], entry: usize, position: usize, tree: &[u32]) -> Outcome
+fn judge<'a>(
+    prefix: &'a [u32],
+    again: &'a [u32],
+    table: &[u32],
+    entry: usize,
+    position: usize,
+    tree: &[u32],
+) -> Outcome
     requires { ⌜ Within (length (now prefix)) (length (now again)) entry position × (length (now tree) ≤ maxWords) ⌝ }
     ensures { λ r. ⌜ Judgement (scheduleFrame (now (prefix .entry)) (now (again .entry))) (formulaOf (now (table .entry)) entry) position
-      (now (tree .entry)) (figuresOf r) ⌝ }
+        (now (tree .entry)) (figuresOf r) ⌝ }
 {
     if tree.len() == 0 {
         return Outcome::NotValid(0);
@@ -145,7 +156,14 @@ fn judge<'a>(prefix: &'a [u32], again: &'a [u32], table: &[u32], entry: usize, p
 }
 
 // Whether the words are a valid tree for an entry of a table at a position of a schedule.
-pub fn check<'a>(prefix: &'a [u32], again: &'a [u32], list: &[u32], entry: usize, position: usize, tree: &[u32]) -> Outcome
+pub fn check<'a>(
+    prefix: &'a [u32],
+    again: &'a [u32],
+    list: &[u32],
+    entry: usize,
+    position: usize,
+    tree: &[u32],
+) -> Outcome
     ensures { λ r. ⌜ Checked (now (prefix .entry)) (now (again .entry)) (now (list .entry)) entry position (now (tree .entry)) (figuresOf r) ⌝ }
 {
     let question = accept(prefix.len(), again.len(), list, entry, position);

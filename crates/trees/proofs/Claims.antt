@@ -38,24 +38,24 @@ module _ (table : List ℕ) (d : Demands) where
   claims-length =
       length-append firsts members
       ∙ (λ i. run-length (formulaOf table (d .first)) (d .place) (d .fixed) (d .verdict) i
-        + run-length (formulaOf table (d .member)) (d .from) (d .count) (d .verdict) i)
+      + run-length (formulaOf table (d .member)) (d .from) (d .count) (d .verdict) i)
 
   pub claims-at : (m : ℕ) (z : Claim) → d .fixed ≤ 1 → m < d .fixed + d .count
       → getD (claimsOf table d) m z ≡ claim (formulaOf table (partOf d m .entry)) (partOf d m .position) (d .verdict)
   claims-at m z one lt =
       by-cases (decLt m (d .fixed))
       (λ before.
-          List·getD-append firsts members z m (rw run-length before)
-          ∙ run-at (formulaOf table (d .first)) (d .place) (d .fixed) (d .verdict) m z before
-          ∙ ap (λ p. claim (formulaOf table (d .first)) p (d .verdict)) (omega arith)
-          ∙ ap (λ p. claim (formulaOf table (p .entry)) (p .position) (d .verdict)) (part-first d m before))
+      List·getD-append firsts members z m (rw run-length before)
+      ∙ run-at (formulaOf table (d .first)) (d .place) (d .fixed) (d .verdict) m z before
+      ∙ ap (λ p. claim (formulaOf table (d .first)) p (d .verdict)) (omega arith)
+      ∙ ap (λ p. claim (formulaOf table (p .entry)) (p .position) (d .verdict)) (part-first d m before))
       (λ after.
-          let long = run-length (formulaOf table (d .first)) (d .place) (d .fixed) (d .verdict) in
-          let there : m ≡ length firsts + (m - d .fixed) = omega (arith, long) in
-          ap (λ k. getD (claimsOf table d) k z) there
-          ∙ getD-append-add firsts members (m - d .fixed) z
-          ∙ run-at (formulaOf table (d .member)) (d .from) (d .count) (d .verdict) (m - d .fixed) z (omega arith)
-          ∙ ap (λ p. claim (formulaOf table (p .entry)) (p .position) (d .verdict)) (part-member d m (omega arith)))
+      let long = run-length (formulaOf table (d .first)) (d .place) (d .fixed) (d .verdict) in
+      let there : m ≡ length firsts + (m - d .fixed) = omega (arith, long) in
+      ap (λ k. getD (claimsOf table d) k z) there
+      ∙ getD-append-add firsts members (m - d .fixed) z
+      ∙ run-at (formulaOf table (d .member)) (d .from) (d .count) (d .verdict) (m - d .fixed) z (omega arith)
+      ∙ ap (λ p. claim (formulaOf table (p .entry)) (p .position) (d .verdict)) (part-member d m (omega arith)))
 
 -- The parts of a node are within the limits that it is in.
 pub part-within : (u v e i : ℕ) (d : Demands) (m : ℕ) → Within u v e i → Earlier e i d → m < d .fixed + d .count

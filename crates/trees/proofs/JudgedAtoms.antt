@@ -94,18 +94,20 @@ module _ (frame : Frame) (table : List ℕ) (e i : ℕ) (s : Verdict) (a n : ℕ
   judged-atom k low high =
       cond-elim (Judges frame table e i s (node k a n)) (fitsOf k (entryAt table e) s && eqb a (leftOf (entryAt table e)))
       (λ h.
-          let first = and-both (fitsOf k (entryAt table e) s) (eqb a (leftOf (entryAt table e))) h in
-          cond-elim (Judges frame table e i s (node k a n)) (eqb n i && eqb (frame .letter i / 2 ^ a % 2) (2 - ruleSign k))
-          (λ g.
-              let second = and-both (eqb n i) (eqb (frame .letter i / 2 ^ a % 2) (2 - ruleSign k)) g in
-              (right (first .0) (record {
-                named = eqb-true a (leftOf (entryAt table e)) (first .1);
-                placed = eqb-true n i (second .0);
-                lettered = eqb-true (frame .letter i / 2 ^ a % 2) (2 - ruleSign k) (second .1);
-              }), near))
-          (λ g needs r.
-              let told = passed needs k low high r in
-              false≢true (sym g ∙ simp (eq-eqb n i (told .placed), eq-eqb (frame .letter i / 2 ^ a % 2) (2 - ruleSign k) (told .lettered)))))
+      let first = and-both (fitsOf k (entryAt table e) s) (eqb a (leftOf (entryAt table e))) h in
+      cond-elim (Judges frame table e i s (node k a n)) (eqb n i && eqb (frame .letter i / 2 ^ a % 2) (2 - ruleSign k))
+      (λ g.
+      let second = and-both (eqb n i) (eqb (frame .letter i / 2 ^ a % 2) (2 - ruleSign k)) g in (
+        right (first .0) (record {
+          named = eqb-true a (leftOf (entryAt table e)) (first .1);
+          placed = eqb-true n i (second .0);
+          lettered = eqb-true (frame .letter i / 2 ^ a % 2) (2 - ruleSign k) (second .1);
+        }),
+        near,
+      ))
+      (λ g needs r.
+      let told = passed needs k low high r in
+      false≢true (sym g ∙ simp (eq-eqb n i (told .placed), eq-eqb (frame .letter i / 2 ^ a % 2) (2 - ruleSign k) (told .lettered)))))
       (λ h needs r. false≢true (sym h ∙ simp (rule-fits table e i s r, eq-eqb a (leftOf (entryAt table e)) (passed needs k low high r .named))))
     where
       right : Right k

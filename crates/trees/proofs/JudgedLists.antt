@@ -44,7 +44,7 @@ module _ (letter : ℕ → ℕ) (u v : ℕ) (table : List ℕ) (e i : ℕ) (s : 
   module _ (k : ℕ) (h : fitsOf k (entryAt table e) s ≡ true) (first place member from : ℕ) where
     ruled : (t : Verdict) → ruleSign k ≡ signOf t
         → Rule frame (claim (byKind (ruleKind k) (formulaOf table) (leftOf (entryAt table e)) (rightOf (entryAt table e))) i t) (node k 0 n)
-          (claimsOf table (listDemands k first place member from n t))
+        (claimsOf table (listDemands k first place member from n t))
         → Rule frame (claim (formulaOf table e) i s) (node k 0 n) (claimsOf table (listDemands k first place member from n s))
     ruled t =
         at-kind table e i s k t (λ f t. Rule frame (claim f i t) (node k 0 n) (claimsOf table (listDemands k first place member from n t))) h
@@ -65,9 +65,10 @@ module _ (letter : ℕ → ℕ) (u v : ℕ) (table : List ℕ) (e i : ℕ) (s : 
   right-11 h =
       cond-elim (Judges frame table e i s (node 11 0 n)) (leb n i)
       (λ t.
-          let le = leb-true n i t in
-          (ruled 11 h _ (i - n) _ (i - n + 1) Holds refl (rule11 le),
-            near 11 h _ (i - n) _ (i - n + 1) (omega arith) (right-near 11 h (omega arith)) (left-near 11 h (omega arith)) (omega arith) (omega arith)))
+      let le = leb-true n i t in (
+        ruled 11 h _ (i - n) _ (i - n + 1) Holds refl (rule11 le),
+        near 11 h _ (i - n) _ (i - n + 1) (omega arith) (right-near 11 h (omega arith)) (left-near 11 h (omega arith)) (omega arith) (omega arith),
+      ))
       (λ f needs r. omega (arith, leb-false n i f, rule-numbers r .count11 refl))
 
   right-12 : Right 12
@@ -75,39 +76,43 @@ module _ (letter : ℕ → ℕ) (u v : ℕ) (table : List ℕ) (e i : ℕ) (s : 
   right-12 h =
       cond-elim (Judges frame table e i s (node 12 0 n)) (within 1 (i + 1) n)
       (λ t.
-          let both = and-both (leb 1 n) (leb n (i + 1)) t in
-          let some = leb-true 1 n (both .0) in
-          let le = leb-true n (i + 1) (both .1) in
-          (ruled 12 h _ (i + 1 - n) _ (i + 1 - n) Violated refl (rule12 some le),
-            near 12 h _ (i + 1 - n) _ (i + 1 - n) (omega arith) (left-near 12 h (omega arith)) (right-near 12 h (omega arith)) (omega arith) (omega arith)))
+      let both = and-both (leb 1 n) (leb n (i + 1)) t in
+      let some = leb-true 1 n (both .0) in
+      let le = leb-true n (i + 1) (both .1) in (
+        ruled 12 h _ (i + 1 - n) _ (i + 1 - n) Violated refl (rule12 some le),
+        near 12 h _ (i + 1 - n) _ (i + 1 - n) (omega arith) (left-near 12 h (omega arith)) (right-near 12 h (omega arith)) (omega arith) (omega arith),
+      ))
       (λ f needs r.
-          let allowed = rule-numbers r .count12 refl in
-          false≢true (sym f ∙ within-in 1 (i + 1) n (allowed .0) (allowed .1)))
+      let allowed = rule-numbers r .count12 refl in
+      false≢true (sym f ∙ within-in 1 (i + 1) n (allowed .0) (allowed .1)))
 
   right-13 : Right 13
   unfolding countPlan
   right-13 h =
       cond-elim (Judges frame table e i s (node 13 0 n)) (eqb n (i + 1))
       (λ t.
-          let all = eqb-true n (i + 1) t in
-          (ruled 13 h (leftOf (entryAt table e)) 0 _ 0 Violated refl (rule13 all),
-            near 13 h _ 0 _ 0 (omega arith) (left-near 13 h (omega arith)) (right-near 13 h (omega arith)) (omega arith) (omega arith)))
+      let all = eqb-true n (i + 1) t in (
+        ruled 13 h (leftOf (entryAt table e)) 0 _ 0 Violated refl (rule13 all),
+        near 13 h _ 0 _ 0 (omega arith) (left-near 13 h (omega arith)) (right-near 13 h (omega arith)) (omega arith) (omega arith),
+      ))
       (λ f needs r. eqb-false n (i + 1) f (rule-numbers r .count13 refl))
 
   right-14 : Right 14
   unfolding countPlan
-  right-14 h =
-      (ruled 14 h _ (i + n) _ i Holds refl rule14,
-        near 14 h _ (i + n) _ i (omega arith) (right-near 14 h (omega arith)) (left-near 14 h (omega arith)) (omega arith) (omega arith))
+  right-14 h = (
+    ruled 14 h _ (i + n) _ i Holds refl rule14,
+    near 14 h _ (i + n) _ i (omega arith) (right-near 14 h (omega arith)) (left-near 14 h (omega arith)) (omega arith) (omega arith),
+  )
 
   right-15 : Right 15
   unfolding countPlan
   right-15 h =
       cond-elim (Judges frame table e i s (node 15 0 n)) (leb 1 n)
       (λ t.
-          let some = leb-true 1 n t in
-          (ruled 15 h _ (i + n - 1) _ i Violated refl (rule15 some),
-            near 15 h _ (i + n - 1) _ i (omega arith) (left-near 15 h (omega arith)) (right-near 15 h (omega arith)) (omega arith) (omega arith)))
+      let some = leb-true 1 n t in (
+        ruled 15 h _ (i + n - 1) _ i Violated refl (rule15 some),
+        near 15 h _ (i + n - 1) _ i (omega arith) (left-near 15 h (omega arith)) (right-near 15 h (omega arith)) (omega arith) (omega arith),
+      ))
       (λ f needs r. omega (arith, leb-false 1 n f, rule-numbers r .count15 refl))
 
   right-16 : Right 16
@@ -115,12 +120,13 @@ module _ (letter : ℕ → ℕ) (u v : ℕ) (table : List ℕ) (e i : ℕ) (s : 
   right-16 h =
       cond-elim (Judges frame table e i s (node 16 0 n)) (eqb n (window 16))
       (λ t.
-          let all = eqb-true n (window 16) t in
-          (ruled 16 h (leftOf (entryAt table e)) 0 _ i Violated refl (rule16 all),
-            near 16 h _ 0 _ i (omega arith) (left-near 16 h (omega arith)) (right-near 16 h (omega arith)) (omega arith) (omega arith)))
+      let all = eqb-true n (window 16) t in (
+        ruled 16 h (leftOf (entryAt table e)) 0 _ i Violated refl (rule16 all),
+        near 16 h _ 0 _ i (omega arith) (left-near 16 h (omega arith)) (right-near 16 h (omega arith)) (omega arith) (omega arith),
+      ))
       (λ f needs r.
-          let right = ap formulaRight (formula-kind table e 5 (sym (fits-says 16 (entryAt table e) s h .0))) in
-          eqb-false n (window 16) f (rule-numbers r .count16 refl ∙ ap (λ g. windowCount u v i (height Past g)) right))
+      let right = ap formulaRight (formula-kind table e 5 (sym (fits-says 16 (entryAt table e) s h .0))) in
+      eqb-false n (window 16) f (rule-numbers r .count16 refl ∙ ap (λ g. windowCount u v i (height Past g)) right))
 
   pub judged-list : (k : ℕ) → 11 ≤ k → k ≤ 16 → Judges frame table e i s (node k 0 n) (listPlan u v table (entryAt table e) i s k n)
   unfolding listPlan

@@ -36,8 +36,8 @@ formed : (r a n : ℕ) → 1 ≤ r → r ≤ 16 → (3 ≤ r → a ≡ 0) → (3
 formed r a n low high atomless plain bad =
     by-cases (decLe r 2) (λ two. subst IsMalformed (sym (word-atom r a n low two)) bad)
     (λ more. by-cases (decLe r 10)
-      (λ ten. subst IsMalformed (sym (word-plain r a n (omega arith) ten (atomless (omega arith)) (plain (omega arith) ten))) bad)
-      (λ past. subst IsMalformed (sym (word-counted r a n (omega arith) high (atomless (omega arith)))) bad))
+    (λ ten. subst IsMalformed (sym (word-plain r a n (omega arith) ten (atomless (omega arith)) (plain (omega arith) ten))) bad)
+    (λ past. subst IsMalformed (sym (word-counted r a n (omega arith) high (atomless (omega arith)))) bad))
 
 node-is : (w k b m : ℕ) → w / 16777216 ≡ k → w / 65536 % 256 ≡ b → w % 65536 ≡ m → node k b m ≡ nodeOf w
 node-is w k b m p q r = λ j. node (sym p j) (sym q j) (sym r j)
@@ -60,16 +60,16 @@ module _ (prefix loop table : List ℕ) (e i : ℕ) (s : Verdict) (w : ℕ) wher
       let says = word-says w (Atom k a n) p in
       subst Right (sym (d ∙ (λ j. atomPlan (l j) (q j) i s k a n)))
       (subst (λ y. Judges (scheduleFrame prefix loop) table e i s y (atomPlan (letterAt prefix loop i) (entryAt table e) i s k a n))
-        (node-is w k a n (says .0) (says .1) (says .2))
-        (judged-atom (scheduleFrame prefix loop) table e i s a n k (says .3) (says .4)))
+      (node-is w k a n (says .0) (says .1) (says .2))
+      (judged-atom (scheduleFrame prefix loop) table e i s a n k (says .3) (says .4)))
 
   pub node-plain : (plan : Plan) (x : Entry) (k : ℕ) → wordOf w ≡ Plain k → x ≡ entryAt table e → plan ≡ plainPlan x i s k → Right plan
   node-plain plan x k p q d =
       let says = word-says w (Plain k) p in
       subst Right (sym (d ∙ (λ j. plainPlan (q j) i s k)))
       (subst (λ y. Judges (scheduleFrame prefix loop) table e i s y (plainPlan (entryAt table e) i s k))
-        (node-is w k 0 0 (says .0) (says .1) (says .2))
-        (judged-plain (scheduleFrame prefix loop) table e i s k (says .3) (says .4)))
+      (node-is w k 0 0 (says .0) (says .1) (says .2))
+      (judged-plain (scheduleFrame prefix loop) table e i s k (says .3) (says .4)))
 
   pub node-counted : (plan : Plan) (x : Entry) (k n : ℕ) → wordOf w ≡ Counted k n → x ≡ entryAt table e
       → plan ≡ listPlan (length prefix) (length loop) table x i s k n → Right plan
@@ -77,8 +77,8 @@ module _ (prefix loop table : List ℕ) (e i : ℕ) (s : Verdict) (w : ℕ) wher
       let says = word-says w (Counted k n) p in
       subst Right (sym (d ∙ (λ j. listPlan (length prefix) (length loop) table (q j) i s k n)))
       (subst (λ y. Judges (scheduleFrame prefix loop) table e i s y (listPlan (length prefix) (length loop) table (entryAt table e) i s k n))
-        (node-is w k 0 n (says .0) (says .1) (says .2))
-        (judged-list (letterAt prefix loop) (length prefix) (length loop) table e i s n (small says) k (says .3) (says .4)))
+      (node-is w k 0 n (says .0) (says .1) (says .2))
+      (judged-list (letterAt prefix loop) (length prefix) (length loop) table e i s n (small says) k (says .3) (says .4)))
     where
       small : {A B C D : Type 0} → A × B × (w % 65536 ≡ n) × C × D → n < 65536
       small says = omega (arith, says .2)

@@ -50,7 +50,7 @@ module _ (frame : Frame) (table : List ℕ) (e i : ℕ) (s : Verdict) where
   module _ (k : ℕ) (h : fitsOf k (entryAt table e) s ≡ true) where
     ruled : (t : Verdict) → ruleSign k ≡ signOf t
         → Rule frame (claim (byKind (ruleKind k) (formulaOf table) (leftOf (entryAt table e)) (rightOf (entryAt table e))) i t) (node k 0 0)
-          (claimsOf table (demands k t))
+        (claimsOf table (demands k t))
         → Rule frame (claim (formulaOf table e) i s) (node k 0 0) (claimsOf table (demands k s))
     ruled t = at-kind table e i s k t (λ f t. Rule frame (claim f i t) (node k 0 0) (claimsOf table (demands k t))) h
 

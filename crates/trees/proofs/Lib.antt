@@ -12,5 +12,6 @@ pub mod JudgedAtoms
 pub mod JudgedLists
 pub mod JudgedNodes
 pub mod Claims
-pub mod Walked
 pub mod Beginnings
+pub mod Walked
+pub mod Determined

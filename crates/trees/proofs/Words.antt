@@ -74,13 +74,13 @@ unfolding wordFrom
 word-fields r a n =
     cond-elim (Fields r a n) (within 1 2 r) (λ e. let b = within-are 1 2 r e in (refl, refl, refl, b .0, b .1))
     (λ _. cond-elim (Fields r a n) (within 3 10 r)
-      (λ e. cond-elim (Fields r a n) (eqb a 0 && eqb n 0)
-        (λ z. let b = within-are 3 10 r e in let none = and-both (eqb a 0) (eqb n 0) z in
-          (refl, eqb-true a 0 (none .0), eqb-true n 0 (none .1), b .0, b .1))
-        (λ _. tt))
-      (λ _. cond-elim (Fields r a n) (within 11 16 r)
-        (λ e. cond-elim (Fields r a n) (eqb a 0) (λ z. let b = within-are 11 16 r e in (refl, eqb-true a 0 z, refl, b .0, b .1)) (λ _. tt))
-        (λ _. tt)))
+    (λ e. cond-elim (Fields r a n) (eqb a 0 && eqb n 0)
+    (λ z. let b = within-are 3 10 r e in let none = and-both (eqb a 0) (eqb n 0) z in
+    (refl, eqb-true a 0 (none .0), eqb-true n 0 (none .1), b .0, b .1))
+    (λ _. tt))
+    (λ _. cond-elim (Fields r a n) (within 11 16 r)
+    (λ e. cond-elim (Fields r a n) (eqb a 0) (λ z. let b = within-are 11 16 r e in (refl, eqb-true a 0 z, refl, b .0, b .1)) (λ _. tt))
+    (λ _. tt)))
 
 -- The case of a written word, and what it says of the node.
 pub word-says : (w : ℕ) (x : Word) → wordOf w ≡ x → Fields (w / 16777216) (w / 65536 % 256) (w % 65536) x

@@ -37,7 +37,9 @@ abbrev pub Judges : Frame → List ℕ → ℕ → ℕ → Verdict → Node → 
 Judges frame table e i s x Wrong = Place.Wrong frame (claim (formulaOf table e) i s) x
 Judges frame table e i s x (Go d) = Rule frame (claim (formulaOf table e) i s) x (claimsOf table d) × Earlier e i d
 
--- A tree stands from one place to the next, or the words break off at a place, whatever claims were to follow.
+-- A tree stands from one place to the next, or no tree stands there and the words break off at a place, whatever claims were to follow.
 abbrev pub Walks : Frame → Claim → List Node → ℕ → Step → Type 0
 Walks frame c nodes at (Next k) = (at < k) × (k ≤ length nodes) × Tree frame c (slice at k nodes)
-Walks frame c nodes at (Bad p) = (at ≤ p) × (p ≤ length nodes) × ((rest : List Claim) → Breaks frame (c ∷ rest) (drop at nodes) (p - at))
+Walks frame c nodes at (Bad p) =
+    (at ≤ p) × (p ≤ length nodes) × ((rest : List Claim) → Breaks frame (c ∷ rest) (drop at nodes) (p - at))
+    × ((k : ℕ) → k ≤ length nodes → ¬ Tree frame c (slice at k nodes))

@@ -1,6 +1,9 @@
 // Trees: a word and its fields, the table of the sixteen rules, the test of one node, and the walk.
-use rules::{Entry, Side, entry_at};
-use schedule::{bit, letter};
+use rules::Entry;
+use rules::Side;
+use rules::entry_at;
+use schedule::bit;
+use schedule::letter;
 ghost use mathlib.Core.Path.{_≡_};
 ghost use mathlib.Core.List.{List};
 ghost use Prim.Native.Nat.{ℕ, _+_, _-_, _*_, _^_, _≤_, _<_, max};
@@ -23,7 +26,9 @@ pub enum Verdict {
 
 // The table of the sixteen rules, a place a rule: its sign (1 holds, 2 violated), its formula kind, its number of fixed parts.
 const SIGNS: [u32; 16] = [1, 2, 1, 2, 1, 1, 2, 1, 2, 2, 1, 2, 2, 1, 2, 2];
+
 const KINDS: [u32; 16] = [0, 0, 1, 1, 2, 2, 2, 3, 3, 3, 4, 4, 4, 5, 5, 5];
+
 const FIXED: [usize; 16] = [0, 0, 1, 1, 1, 1, 2, 2, 1, 1, 1, 1, 0, 1, 1, 0];
 
 // A word by its rule: what its fields say, or that its form fits no rule.
@@ -166,7 +171,7 @@ fn counted(rule: usize, atom: usize, number: usize) -> Word
 }
 
 // A word, by cases on its rule number.
-pub fn decode(word: u32) -> Word
+fn decode(word: u32) -> Word
     ensures { λ r. ⌜ r ≡ wordOf word ⌝ }
 {
     let rule = (word / 16777216) as usize;
@@ -206,7 +211,15 @@ fn suits(rule: usize, entry: Entry, needed: Verdict) -> bool
 }
 
 // Rules 1 and 2: kind with the atom's number, sign, position, letter.
-fn atom_plan(letter: u32, entry: Entry, position: usize, needed: Verdict, rule: usize, atom: usize, number: usize) -> Plan
+fn atom_plan(
+    letter: u32,
+    entry: Entry,
+    position: usize,
+    needed: Verdict,
+    rule: usize,
+    atom: usize,
+    number: usize,
+) -> Plan
     requires { ⌜ (1 ≤ rule) × (rule ≤ 2) ⌝ }
     ensures { λ r. ⌜ r ≡ atomPlan letter entry position needed rule atom number ⌝ }
 {
@@ -275,7 +288,15 @@ fn plain_plan(entry: Entry, position: usize, needed: Verdict, rule: usize) -> Pl
 }
 
 // What a list asks, with the rule's fixed part before it.
-fn list_demands(rule: usize, first: usize, place: usize, member: usize, from: usize, count: usize, verdict: Verdict) -> Demands
+fn list_demands(
+    rule: usize,
+    first: usize,
+    place: usize,
+    member: usize,
+    from: usize,
+    count: usize,
+    verdict: Verdict,
+) -> Demands
     requires { ⌜ (1 ≤ rule) × (rule ≤ 16) ⌝ }
     ensures { λ r. ⌜ r ≡ listDemands rule first place member from count verdict ⌝ }
 {
@@ -291,7 +312,15 @@ fn list_demands(rule: usize, first: usize, place: usize, member: usize, from: us
 }
 
 // Rules 11 to 16 by their counts.
-fn count_plan(rule: usize, left: usize, right: usize, position: usize, n: usize, window: usize, verdict: Verdict) -> Plan
+fn count_plan(
+    rule: usize,
+    left: usize,
+    right: usize,
+    position: usize,
+    n: usize,
+    window: usize,
+    verdict: Verdict,
+) -> Plan
     requires { ⌜ (11 ≤ rule) × (rule ≤ 16) × (position < 2 ^ 40) × (n < 65536) ⌝ }
     ensures { λ r. ⌜ r ≡ countPlan rule left right position n window verdict ⌝ }
 {
@@ -300,7 +329,15 @@ fn count_plan(rule: usize, left: usize, right: usize, position: usize, n: usize,
             if position < n {
                 return Plan::Wrong;
             }
-            Plan::Go(list_demands(rule, right, position - n, left, position - n + 1, n, verdict))
+            Plan::Go(list_demands(
+                rule,
+                right,
+                position - n,
+                left,
+                position - n + 1,
+                n,
+                verdict,
+            ))
         }
         12 => {
             if n < 1 {
@@ -309,7 +346,15 @@ fn count_plan(rule: usize, left: usize, right: usize, position: usize, n: usize,
             if position + 1 < n {
                 return Plan::Wrong;
             }
-            Plan::Go(list_demands(rule, left, position + 1 - n, right, position + 1 - n, n, verdict))
+            Plan::Go(list_demands(
+                rule,
+                left,
+                position + 1 - n,
+                right,
+                position + 1 - n,
+                n,
+                verdict,
+            ))
         }
         13 => {
             if n != position + 1 {
@@ -374,7 +419,7 @@ fn list_plan(
 }
 
 // The test of one node: on its word, its entry, its position and the needed verdict; it sees no other word.
-pub fn node<'a>(
+fn node<'a>(
     prefix: &'a [u32],
     again: &'a [u32],
     table: &[u32],
@@ -389,11 +434,28 @@ pub fn node<'a>(
     let entry = entry_at(table, e);
     match decode(word) {
         Word::Atom(rule, atom, number) => {
-            atom_plan(letter(prefix, again, position), entry, position, needed, rule, atom, number)
+            atom_plan(
+                letter(prefix, again, position),
+                entry,
+                position,
+                needed,
+                rule,
+                atom,
+                number,
+            )
         }
         Word::Plain(rule) => plain_plan(entry, position, needed, rule),
         Word::Counted(rule, n) => {
-            list_plan(prefix.len(), again.len(), table, entry, position, needed, rule, n)
+            list_plan(
+                prefix.len(),
+                again.len(),
+                table,
+                entry,
+                position,
+                needed,
+                rule,
+                n,
+            )
         }
         Word::Malformed => Plan::Wrong,
     }
@@ -429,7 +491,7 @@ pub fn walk<'a>(
 ) -> Step
     requires { ⌜ Within (length (now prefix)) (length (now again)) e position × (at ≤ length (now tree)) ⌝ }
     ensures { λ r. ⌜ Walks (scheduleFrame (now (prefix .entry)) (now (again .entry)))
-      (claim (formulaOf (now (table .entry)) e) position needed) (map nodeOf (now (tree .entry))) at r ⌝ }
+        (claim (formulaOf (now (table .entry)) e) position needed) (map nodeOf (now (tree .entry))) at r ⌝ }
 {
     if tree.len() <= at {
         return Step::Bad(at);
@@ -444,7 +506,16 @@ pub fn walk<'a>(
     let mut m = 0;
     while m < parts {
         let part = part_at(demands, m);
-        let step = walk(prefix, again, table, tree, part.entry, part.position, verdict, next);
+        let step = walk(
+            prefix,
+            again,
+            table,
+            tree,
+            part.entry,
+            part.position,
+            verdict,
+            next,
+        );
         let Step::Next(after) = step else {
             return step;
         };

@@ -53,7 +53,7 @@ returns-3 c =
     let number = bare-number (sym (read .read .ensures .figures) ∙ ap readFigures (c .before .enum-told3 .given .1)) in
     hands-later _ _ _ number
     (subst₂ (λ list table. Hands (orElse (askRefusal list (args .entry)) (farRefusal (args .position))) (args .lengths) table (c .accept-entry .result))
-      (table-words _ _ (read .read .ensures) number) (table-read _ _ (read .read .ensures) number) (c .accept-entry .ensures))
+    (table-words _ _ (read .read .ensures) number) (table-read _ _ (read .read .ensures) number) (c .accept-entry .ensures))
 
 pub accept-table-spec : {M : Type 1} → statement M
 accept-table-spec =

@@ -71,7 +71,7 @@ returns-3 c =
     let a = asked test .args in
     judged (passed test .0) (c .before .before .before .before .if2 .left)
     (subst (λ l. Judgement (scheduleFrame (now (a .prefix)) (now (a .again))) (formulaOf l (a .entry)) (a .position) (now (a .tree)) (figuresOf (c .judge .result)))
-      (table-words test) (c .judge .ensures))
+    (table-words test) (c .judge .ensures))
 
 pub check-spec : {M : Type 1} → statement M
 check-spec =

@@ -86,7 +86,7 @@ module _ (t : ℕ) where
       subst (λ x. Judges (frame (begun k)) (now (a .table)) (a .e) (a .position) (a .needed) x (Go (demands k)))
       (sym (List·getD-map nodeOf (now (a .tree)) (a .at) 0))
       (subst (Judges (frame (begun k)) (now (a .table)) (a .e) (a .position) (a .needed) (nodeOf (getD (now (a .tree)) (a .at) 0))) (k .plan .given .1)
-        (k .before .before .node .ensures))
+      (k .before .before .node .ensures))
 
   returns : lts.Need-returns (claims t) (walk-at t) walk.Post Inv-loop μ-loop
   returns c =
@@ -115,9 +115,9 @@ module _ (t : ℕ) where
       let lt : a .args .at < length (nodes a) = omega (arith, c .before .before .before .before .if1 .left, nodes-length (now (a .args .tree))) in
       walk-wrong (frame a) (asked a) (nodes a) (a .args .at) (nodeOf 0) lt
       (subst (λ x. Judges (frame a) (now (a .args .table)) (a .args .e) (a .args .position) (a .args .needed) x Wrong)
-        (sym (List·getD-map nodeOf (now (a .args .tree)) (a .args .at) 0))
-        (subst (Judges (frame a) (now (a .args .table)) (a .args .e) (a .args .position) (a .args .needed) (nodeOf (getD (now (a .args .tree)) (a .args .at) 0)))
-          (c .enum-told .given .1) (c .before .before .node .ensures)))
+      (sym (List·getD-map nodeOf (now (a .args .tree)) (a .args .at) 0))
+      (subst (Judges (frame a) (now (a .args .table)) (a .args .e) (a .args .position) (a .args .needed) (nodeOf (getD (now (a .args .tree)) (a .args .at) 0)))
+      (c .enum-told .given .1) (c .before .before .node .ensures)))
 
   add-parts : lts.Need-add-parts (claims t) (walk-at t) walk.Post Inv-loop μ-loop
   add-parts c =
@@ -144,10 +144,13 @@ module _ (t : ℕ) where
       let k = c .before .before .before .before .before in
       let a = begun k in
       let near = part-within _ _ _ _ (demands k) _ (a .pre .1 .0) (ruled k .1) (c .before .loop-test .taken) in
-      let part = c .part-at .ensures in
-      (omega (arith, ap (λ p. p .entry) part, near .0, a .pre .0),
-        (subst (λ p. Within (length (now (a .args .prefix))) (length (now (a .args .again))) (p .entry) (p .position)) (sym part) (near .1),
-          omega (arith, c .before .before .loop .inv .0 .inside, nodes-length (now (a .args .tree)))))
+      let part = c .part-at .ensures in (
+        omega (arith, ap (λ p. p .entry) part, near .0, a .pre .0),
+        (
+          subst (λ p. Within (length (now (a .args .prefix))) (length (now (a .args .again))) (p .entry) (p .position)) (sym part) (near .1),
+          omega (arith, c .before .before .loop .inv .0 .inside, nodes-length (now (a .args .tree))),
+        ),
+      )
 
   enum-known-step : lts.Need-enum-known-step (claims t) (walk-at t) walk.Post Inv-loop μ-loop
   enum-known-step c = search needs
@@ -165,15 +168,15 @@ module _ (t : ℕ) where
     -- the call walked the claim of the part at its place
     walked : (step : Step) → w .walk .result ≡ step
         → Walks (frame (begun plan)) (getD (needed plan) (w .before .before .before .loop .m) (asked (begun plan))) (nodes (begun plan))
-          (w .before .before .before .loop .next) step
+        (w .before .before .before .loop .next) step
     walked step e =
         let a = begun plan in
         let part = w .before .part-at .ensures in
         subst (Walks (frame a) _ (nodes a) _) e
         (subst (λ c. Walks (frame a) c (nodes a) (w .before .before .before .loop .next) (w .walk .result))
-          (ap (λ p. claim (formulaOf (now (a .args .table)) (p .entry)) (p .position) (demands plan .verdict)) part
-            ∙ sym (claims-at (now (a .args .table)) (demands plan) _ (asked a) (ruled plan .1 .one) (w .before .before .loop-test .taken)))
-          (w .walk .ensures))
+        (ap (λ p. claim (formulaOf (now (a .args .table)) (p .entry)) (p .position) (demands plan .verdict)) part
+        ∙ sym (claims-at (now (a .args .table)) (demands plan) _ (asked a) (ruled plan .1 .one) (w .before .before .loop-test .taken)))
+        (w .walk .ensures))
 
   returns-3 : lts.Need-returns-3 (claims t) (walk-at t) walk.Post Inv-loop μ-loop
   returns-3 c =
@@ -182,7 +185,7 @@ module _ (t : ℕ) where
       let a = begun k in
       subst (Walks (frame a) (asked a) (nodes a) (a .args .at)) (sym (c .enum-told2 .given .1))
       (walk-bad (frame a) (asked a) (nodes a) (a .args .at) (nodeOf 0) (there k) (needed k) _ _ (w .before .before .before .loop .inv .0)
-        (asked a) (short w) _ (ruled k .0) (walked w _ (c .enum-told2 .given .1)))
+      (asked a) (short w) _ (ruled k .0) (walked w _ (c .enum-told2 .given .1)))
 
   add-m : lts.Need-add-m (claims t) (walk-at t) walk.Post Inv-loop μ-loop
   add-m c =
@@ -197,9 +200,11 @@ module _ (t : ℕ) where
   loop-again c =
       let w = c .before .before .before in
       let k = plan w in
-      let a = begun k in
-      (passed-more (frame a) (asked a) (nodes a) (a .args .at) (nodeOf 0) (there k) (needed k) _ _ (w .before .before .before .loop .inv .0)
-        (asked a) (short w) _ (walked w _ (c .before .step .given .1)), omega (arith, w .before .before .loop-test .taken))
+      let a = begun k in (
+        passed-more (frame a) (asked a) (nodes a) (a .args .at) (nodeOf 0) (there k) (needed k) _ _ (w .before .before .before .loop .inv .0)
+            (asked a) (short w) _ (walked w _ (c .before .step .given .1)),
+        omega (arith, w .before .before .loop-test .taken),
+      )
 
   returns-4 : lts.Need-returns-4 (claims t) (walk-at t) walk.Post Inv-loop μ-loop
   returns-4 c =
