@@ -10,3 +10,16 @@ pub mod Sound
 pub mod Verdict
 pub mod Fails
 pub mod Complete
+pub mod Saves
+pub mod Laps
+pub mod Horizon
+pub mod LeastForests
+pub mod Roots
+pub mod Best
+pub mod LeastExists
+pub mod LeastParts
+pub mod LeastRoot
+pub mod Cols
+pub mod LeastNodes
+pub mod Small
+pub mod Heavy

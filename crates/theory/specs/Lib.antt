@@ -3,3 +3,7 @@ pub mod Threshold
 pub mod Truth
 pub mod Means
 pub mod Frames
+pub mod Repeating
+pub mod Level
+pub mod LeastForests
+pub mod Cols

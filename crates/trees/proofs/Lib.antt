@@ -13,5 +13,6 @@ pub mod JudgedLists
 pub mod JudgedNodes
 pub mod Claims
 pub mod Beginnings
+pub mod Order
 pub mod Walked
 pub mod Determined

@@ -1,0 +1,119 @@
+-- A witness need not lie past the window: for every valid tree there is one at or before it whose root looks no further.
+-- Assumes nothing.
+use Prim.Native.Nat.{ℕ, zero, suc, _+_, _-_, _<_, _≤_}
+use mathlib.Core.Path.{_≡_, refl}
+use mathlib.Core.Logic.{by-cases}
+use mathlib.Core.List.{List, _∷_, head-eq-of-cons-eq}
+use native.Mathlib.Decide.{decLe, decLt}
+use native.Mathlib.Omega.{arith}
+use Rattle.rules.specs.Formula.{Formula, until, height}
+use Rattle.rules.specs.declared.Side.the-variants.{Past}
+use Rattle.trees.specs.Nodes.{Node, node}
+use Rattle.trees.specs.Rules.{Frame, Claim, claim, run, Rule}
+use Rattle.trees.specs.Rules.{rule1, rule2, rule3, rule4, rule5, rule6, rule7, rule8}
+use Rattle.trees.specs.Rules.{rule9, rule10, rule11, rule12, rule13, rule14, rule15, rule16}
+use Rattle.trees.specs.Trees.{Tree, grown, Forest, more}
+use Rattle.trees.specs.Frames.{windowCount}
+use Rattle.trees.specs.Least.{Cost, ones, AtOrBefore, cheaper, Least}
+use Rattle.trees.specs.declared.Verdict.the-variants.{Holds, Violated}
+use Rattle.trees.proofs.Needs.{formulaRight}
+use Rattle.trees.proofs.Order.{cost-append, at-reflexive, at-transitive, at-antisymmetric}
+use Rattle.theory.specs.Words.{Repeats}
+use Rattle.theory.specs.Threshold.{windowEnd}
+use Rattle.theory.specs.Repeating.{repeatFrame}
+use Rattle.theory.specs.Level.{Level}
+use Rattle.theory.proofs.Saves.{AllSave, tree-cost, more-saves, cut-saves, at-least}
+use Rattle.theory.proofs.Laps.{lap-earlier}
+
+pub ones-level : Level ones
+ones-level = omega arith
+
+-- The witness of a root x for c, i + n under rule 14 and i + n - 1 under rule 15, lies inside the window of the right side.
+pub record InWindow (u v : ℕ) (c : Claim) (x : Node) : Type 0 where
+  pub ahead : x .rule ≡ 14 → c .position + x .number < windowEnd u v (formulaRight (c .formula)) (c .position)
+  pub cut : x .rule ≡ 15 → c .position + x .number ≤ windowEnd u v (formulaRight (c .formula)) (c .position)
+
+module _ (cost : Cost) {word : ℕ → ℕ} {u v : ℕ} (w : Repeats word u v) (f g : Formula) (i : ℕ) where
+  -- rule 14, a witness at or past the end: a lap earlier the right side is no dearer, and v members fall away
+  pub witness-earlier : (n : ℕ) → windowEnd u v g i ≤ i + n → {ws : List Node}
+      → Forest (repeatFrame word u v) (claim g (i + n) Holds ∷ run f i n Holds) ws
+      → AllSave cost (repeatFrame word u v) v (claim g (i + (n - v)) Holds ∷ run f i (n - v) Holds) ws
+  witness-earlier n past (more a bs) =
+      let at = lap-earlier w g (i + n) (i + (n - v)) Holds (omega arith) (omega arith) a in
+      at-least (omega arith) (more-saves at (cut-saves f i n i (n - v) v Holds refl (omega arith) bs))
+
+  -- rule 15, a witness past the end: the right side is violated all through the window, and the first part and a member fall away
+  pub witness-none : (n : ℕ) → windowEnd u v g i < i + n → {ws : List Node}
+      → Forest (repeatFrame word u v) (claim f (i + n - 1) Violated ∷ run g i n Violated) ws
+      → AllSave cost (repeatFrame word u v) 2 (run g i (windowCount u v i (height Past g)) Violated) ws
+  witness-none n past (more {ws} {vs} a bs) =
+      let m = windowCount u v i (height Past g) in
+      let on = cut-saves {cost = cost} g i n i m (n - m) Violated refl (omega arith) bs in
+      record { nodes = on .nodes; forest = on .forest; less = omega (arith, tree-cost cost a, cost-append cost ws vs) }
+
+-- A tree at or before the nodes ws, with a root among Q.
+pub record Within (cost : Cost) (frame : Frame) (Q : Node → Type 0) (c : Claim) (ws : List Node) : Type 0 where
+  pub root : Node
+  pub nodes : List Node
+  pub tree : Tree frame c (root ∷ nodes)
+  pub near : Q root
+  pub before : AtOrBefore cost (root ∷ nodes) ws
+
+module _ {cost : Cost} {frame : Frame} {Q : Node → Type 0} {c : Claim} where
+  within-later : {ws vs : List Node} → Within cost frame Q c ws → AtOrBefore cost ws vs → Within cost frame Q c vs
+  within-later a b = record { root = a .root; nodes = a .nodes; tree = a .tree; near = a .near; before = at-transitive (a .before) b }
+
+  pub within-itself : {x : Node} {needs : List Claim} {ws : List Node}
+      → Rule frame c x needs → Forest frame needs ws → Q x → Within cost frame Q c (x ∷ ws)
+  within-itself {x} r fs near = record { root = x; nodes = _; tree = grown r fs; near = near; before = at-reflexive }
+
+-- a search may look further
+pub within-wider : {cost : Cost} {frame : Frame} {Q R : Node → Type 0} {c : Claim} {ws : List Node}
+    → ((x : Node) → Q x → R x) → Within cost frame Q c ws → Within cost frame R c ws
+within-wider wide a = record { root = a .root; nodes = a .nodes; tree = a .tree; near = wide (a .root) (a .near); before = a .before }
+
+module _ {cost : Cost} {word : ℕ → ℕ} {u v : ℕ} (w : Repeats word u v) {f g : Formula} (i : ℕ) where
+  -- lap by lap into the window; the bound m falls with them
+  holds-inside : (m n : ℕ) → n < m → {ws : List Node} → Forest (repeatFrame word u v) (claim g (i + n) Holds ∷ run f i n Holds) ws
+      → let c = claim (until f g) i Holds in Within cost (repeatFrame word u v) (InWindow u v c) c (node 14 0 n ∷ ws)
+  holds-inside zero n lt fs = absurd (omega arith)
+  holds-inside (suc m) n lt fs = by-cases (decLt (i + n) (windowEnd u v g i))
+      (λ near. within-itself rule14 fs (omega arith))
+      (λ far.
+      let a = witness-earlier cost w f g i n (omega arith) fs in
+      within-later (holds-inside m (n - v) (omega arith) (a .forest)) (cheaper (omega arith)))
+
+  violated-inside : Level cost → (n : ℕ) → 1 ≤ n → {ws : List Node}
+      → Forest (repeatFrame word u v) (claim f (i + n - 1) Violated ∷ run g i n Violated) ws
+      → let c = claim (until f g) i Violated in Within cost (repeatFrame word u v) (InWindow u v c) c (node 15 0 n ∷ ws)
+  violated-inside lv n some fs = by-cases (decLe (i + n) (windowEnd u v g i))
+      (λ near. within-itself (rule15 some) fs (omega arith))
+      (λ far.
+      let a = witness-none cost w f g i n (omega arith) fs in
+      within-later (within-itself (rule16 refl) (a .forest) (omega arith)) (cheaper (omega arith)))
+
+module _ {cost : Cost} (lv : Level cost) {word : ℕ → ℕ} {u v : ℕ} (w : Repeats word u v) where
+  pub inside : {c : Claim} {ws : List Node} → Tree (repeatFrame word u v) c ws → Within cost (repeatFrame word u v) (InWindow u v c) c ws
+  inside (grown (rule1 h) fs) = within-itself (rule1 h) fs (omega arith)
+  inside (grown (rule2 h) fs) = within-itself (rule2 h) fs (omega arith)
+  inside (grown rule3 fs) = within-itself rule3 fs (omega arith)
+  inside (grown rule4 fs) = within-itself rule4 fs (omega arith)
+  inside (grown rule5 fs) = within-itself rule5 fs (omega arith)
+  inside (grown rule6 fs) = within-itself rule6 fs (omega arith)
+  inside (grown rule7 fs) = within-itself rule7 fs (omega arith)
+  inside (grown rule8 fs) = within-itself rule8 fs (omega arith)
+  inside (grown rule9 fs) = within-itself rule9 fs (omega arith)
+  inside (grown rule10 fs) = within-itself rule10 fs (omega arith)
+  inside (grown (rule11 h) fs) = within-itself (rule11 h) fs (omega arith)
+  inside (grown (rule12 h k) fs) = within-itself (rule12 h k) fs (omega arith)
+  inside (grown (rule13 h) fs) = within-itself (rule13 h) fs (omega arith)
+  inside (grown (rule14 {i} {n}) fs) = holds-inside w i (suc n) n (omega arith) fs
+  inside (grown (rule15 {i} {n} some) fs) = violated-inside w i lv n some fs
+  inside (grown (rule16 h) fs) = within-itself (rule16 h) fs (omega arith)
+
+  -- so the root of a least tree looks no further
+  pub least-inside : {f : Formula} {i : ℕ} {x : Node} {ws : List Node} (l : Least cost (repeatFrame word u v) f i (x ∷ ws))
+      → InWindow u v (claim f i (l .verdict)) x
+  least-inside l =
+      let a = inside (l .valid) in
+      rw (head-eq-of-cons-eq (at-antisymmetric (a .before) (l .least (l .verdict) _ (a .tree)))) at (a .near)
