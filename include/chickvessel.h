@@ -68,8 +68,8 @@ typedef struct {
 
 /* chickvessel_check: whether the words of tree are a valid tree for an entry at a position, and which verdict it proves.
  * Read:    prefix and loop, the letters; table, the entries; tree, the words: each list as far as its length (in elements, not bytes) and
- *          never written. entry, the index of the asked entry; position, the asked position. Both are size_t and are not cut down: one of
- *          4294967296 is refused, not taken for 0. A null pointer with length 0 is an empty list. Lists may overlap.
+ *          never written. A null pointer with length 0 is an empty list. Lists may overlap. entry is the index of the asked entry, position
+ *          the asked position. Both are judged as the whole size_t: 4294967296 is refused, not taken for 0.
  * Refused: by the first that applies, in the order 1 2 3 4 5 6 7 10 9. Refusals 4 and 5 look at every entry, asked or not.
  *                     number  place  verdict               size
  *          valid      0       0      1 holds, 2 violated   0
@@ -84,7 +84,8 @@ typedef struct {
  * Size:    0, also for a valid tree; its size is tree_len.
  * Time:    by the words of the tree. Heights are worked out by following an entry's parts down, for every entry once and for each node of
  *          rule 16 once more, which on a table of 32 entries and(k - 1, k - 2) is millions of steps each time.
- * Keeps no pointer, allocates nothing, has no state: calls may run at once, on the same lists too. Fits in 16 KiB of stack. */
+ * Keeps no pointer, allocates nothing, has no state, calls nothing but memcpy and memset: calls may run at once, on the same lists too.
+ *          Fits in 16 KiB of stack. */
 chickvessel_answer chickvessel_check(const uint32_t *prefix, size_t prefix_len, const uint32_t *loop, size_t loop_len,
                                      const uint32_t *table, size_t table_len, size_t entry, size_t position,
                                      const uint32_t *tree, size_t tree_len);

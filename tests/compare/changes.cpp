@@ -1,6 +1,7 @@
-// What each change does.
+// What each change does. No call below has two arguments that draw: their order would be the compiler's.
 #include "changes.hpp"
 
+#include "questions.hpp"
 #include "shapes.hpp"
 
 #include <algorithm>
@@ -29,8 +30,7 @@ bool word_changed(test_case& c, random_source& r) {
     if (c.tree.empty()) return false;
     std::uint32_t& word = c.tree[r.below(c.tree.size())];
     if (r.one_in(2)) word ^= 1u << r.below(32);
-    else if (r.one_in(2)) word = r.pick(c.tree) + std::uint32_t(r.below(2));
-    else word = std::uint32_t(r.next());
+    else word = r.one_in(2) ? r.pick(c.tree) : std::uint32_t(r.next());
     return true;
 }
 
@@ -42,8 +42,8 @@ bool cut(test_case& c, random_source& r) {
 
 // By words of its own or any others, sometimes to and past the most that is looked at.
 bool extended(test_case& c, random_source& r) {
-    const std::uint64_t more = r.one_in(6) ? r.pick({4095, 4096, 4097, 70000}) : r.between(1, 3);
-    const std::size_t length = more > 3 ? std::max<std::size_t>(more, c.tree.size() + 1) : c.tree.size() + more;
+    const std::size_t least_length = r.one_in(6) ? r.pick({4095, 4096, 4097, 70000}) : 0;
+    const std::size_t length = std::max(least_length, c.tree.size() + r.between(1, 3));
     const std::uint32_t word = c.tree.empty() || r.one_in(3) ? std::uint32_t(r.next()) : r.pick(c.tree);
     c.tree.resize(length, word);
     return true;
@@ -120,13 +120,15 @@ bool list_emptied(test_case& c, random_source& r) {
 bool letter_changed(test_case& c, random_source& r) {
     list& letters = r.one_in(2) ? c.prefix : c.loop;
     if (letters.empty()) return false;
-    letters[r.below(letters.size())] ^= 1u << (r.one_in(2) ? r.below(3) : r.below(32));
+    std::uint32_t& letter = letters[r.below(letters.size())];
+    letter ^= 1u << (r.one_in(2) ? r.below(3) : r.below(32));
     return true;
 }
 
 bool letters_added(test_case& c, random_source& r) {
     list& letters = r.one_in(2) ? c.prefix : c.loop;
-    letters.resize(letters.size() + r.pick({1, 2, 47, 48, 49, 1000}), std::uint32_t(r.below(8)));
+    const std::uint64_t more = r.pick({1, 2, 47, 48, 49, 1000});
+    letters.resize(letters.size() + more, std::uint32_t(r.below(8)));
     return true;
 }
 
@@ -139,7 +141,8 @@ bool table_changed(test_case& c, random_source& r) {
 }
 
 bool entries_added(test_case& c, random_source& r) {
-    c.table.resize(c.table.size() + r.pick({1, 2, 31, 32, 33, 1000}), std::uint32_t(r.below(32) * 256));
+    const std::uint64_t more = r.pick({1, 2, 31, 32, 33, 1000});
+    c.table.resize(c.table.size() + more, entry_word(ATOM, r.below(32), 0));
     return true;
 }
 

@@ -3,7 +3,7 @@
 
 #include "changes.hpp"
 #include "check_shapes.hpp"
-#include "library.hpp"
+#include "hold.hpp"
 #include "shapes.hpp"
 #include "tally.hpp"
 
@@ -16,7 +16,10 @@ using namespace second;
 constexpr std::uint64_t LEAST_CALLS = 100000;
 
 std::string size_class(std::size_t words) {
-    return words < 10 ? "of 1 to 9 words" : words < 100 ? "of 10 to 99" : words < 1000 ? "of 100 to 999" : words < MAX_TREE ? "of 1000 to 4094" : "of 4095";
+    if (words < 10) return "of 1 to 9 words";
+    if (words < 100) return "of 10 to 99";
+    if (words < 1000) return "of 100 to 999";
+    return words < MAX_TREE ? "of 1000 to 4094" : "of 4095";
 }
 
 // In which way the words are no tree.

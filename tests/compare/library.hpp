@@ -1,14 +1,20 @@
-// The calls of the proved library, in the form that the second program holds against a case.
+// The calls of the proved library over spans, as the second program has its own. An empty list goes as a null pointer.
 #pragma once
 
-#include "cases.hpp"
+#include "chickvessel.h"
+#include "reference.hpp"
 
-namespace compare {
+namespace library {
 
-// Holds the library against a case, lent buffers included; throws second::failure with the whole case at a difference.
-void hold(const second::test_case& c, std::uint32_t junk);
+using second::words;
 
-// Whether the library has the call.
-bool offers(second::call what);
+inline const std::uint32_t* pointer(words list) { return list.empty() ? nullptr : list.data(); }
 
-} // namespace compare
+inline second::answer answer_of(chickvessel_answer a) { return {a.number, a.place, a.verdict, a.size}; }
+
+inline second::answer check(words prefix, words loop, words table, std::size_t entry, std::size_t position, words tree) {
+    return answer_of(chickvessel_check(pointer(prefix), prefix.size(), pointer(loop), loop.size(), pointer(table), table.size(), entry, position,
+                                       pointer(tree), tree.size()));
+}
+
+} // namespace library
