@@ -23,3 +23,6 @@ pub mod Cols
 pub mod LeastNodes
 pub mod Small
 pub mod Heavy
+pub mod Cuts
+pub mod Costs
+pub mod CostsSince

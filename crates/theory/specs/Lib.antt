@@ -7,3 +7,5 @@ pub mod Repeating
 pub mod Level
 pub mod LeastForests
 pub mod Cols
+pub mod Costs
+pub mod SinceCosts
