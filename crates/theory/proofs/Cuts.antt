@@ -35,3 +35,7 @@ cut-raised k a = record { top = omega arith; under = λ n r. omega (arith, a .un
 
 pub cut-sum : {P Q : ℕ → Type 0} {p q : ℕ} → CutLeast P p → CutLeast Q q → CutLeast (Sum P Q) (cut (p + q))
 cut-sum a b = record { top = omega arith; under = λ n s. omega (arith, a .under (s .first) (s .one), b .under (s .second) (s .other), s .adds); met = λ h. record { first = _; second = _; one = a .met (omega (arith, h)); other = b .met (omega (arith, h)); adds = omega (arith, h) } }
+
+-- cut off again is cut off once
+pub cut-again : (k n : ℕ) → cut (k + cut n) ≡ cut (k + n)
+cut-again k n = omega arith

@@ -21,11 +21,11 @@ use Rattle.theory.proofs.Says.{says-follows, says-alike, says-not, says
 use Rattle.rules.proofs.Neighbours.{since-first, since-unrolled, until-unrolled}
 
 -- until with a place below an end
-abbrev UntilBelow : (A B : ℕ → Type 0) (end i : ℕ) → Type 0
+abbrev pub UntilBelow : (A B : ℕ → Type 0) (end i : ℕ) → Type 0
 UntilBelow A B end i = Until A (λ k. B k × (k < end)) i
 
 module _ {A B : ℕ → Type 0} {end i : ℕ} where
-  below-until : UntilBelow A B end i → Until A B i
+  pub below-until : UntilBelow A B end i → Until A B i
   below-until w = record { place = w .place; order = w .order; there = w .there .0; between = w .between }
 
   -- every right side up to the place is a place too
@@ -34,7 +34,7 @@ module _ {A B : ℕ → Type 0} {end i : ℕ} where
       record { place = k; order = ge; there = (h, lt); between = λ m from to. w .between m from (omega arith) }
 
   -- A place at or past the end means that the left side held all the way to the end, so no right side lies before it.
-  below-none : (((k : ℕ) → i ≤ k → k < end → ¬ B k) → (k : ℕ) → i ≤ k → ¬ B k) → ¬ UntilBelow A B end i → ¬ Until A B i
+  pub below-none : (((k : ℕ) → i ≤ k → k < end → ¬ B k) → (k : ℕ) → i ≤ k → ¬ B k) → ¬ UntilBelow A B end i → ¬ Until A B i
   below-none ever none w = by-cases (decLt (w .place) end)
       (λ near. none (until-below w (w .place) (w .order) (omega arith) near (w .there)))
       (λ far. ever (λ k ge lt h. none (until-below w k ge (omega arith) lt h)) (w .place) (w .order) (w .there))

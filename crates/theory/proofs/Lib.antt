@@ -25,4 +25,8 @@ pub mod Small
 pub mod Heavy
 pub mod Cuts
 pub mod Costs
+pub mod CostsRuns
+pub mod CostsPlain
 pub mod CostsSince
+pub mod CostsUntil
+pub mod Sizes

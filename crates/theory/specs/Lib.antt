@@ -8,4 +8,7 @@ pub mod Level
 pub mod LeastForests
 pub mod Cols
 pub mod Costs
+pub mod RunCosts
 pub mod SinceCosts
+pub mod UntilCosts
+pub mod Sizes

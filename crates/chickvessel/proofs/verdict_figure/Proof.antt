@@ -1,0 +1,20 @@
+-- `chickvessel::verdict_figure` meets its contract: a case a return.
+-- Assumes nothing.
+use borrow.Author.Needs.{needs}
+use Rattle.chickvessel.proofs.verdict_figure.Statement.{statement}
+use Rattle.chickvessel.proofs.verdict_figure.Tie as tie
+
+enum-told : tie.Need-enum-told
+enum-told c = search needs
+
+enum-told-2 : tie.Need-enum-told-2
+enum-told-2 c = search needs
+
+returns : tie.Need-returns
+returns c = search needs
+
+returns-2 : tie.Need-returns-2
+returns-2 c = search needs
+
+pub verdict-figure-spec : {M : Type 1} → statement M
+verdict-figure-spec = tie.close (tie.spec enum-told enum-told-2 returns returns-2)
