@@ -3,6 +3,7 @@ use rules::Entry;
 use rules::Side;
 use rules::entry_at;
 use rules::height;
+use schedule::Schedule;
 use schedule::bit;
 use schedule::letter;
 ghost use mathlib.Core.Path.{_≡_};
@@ -316,7 +317,7 @@ fn fill_row<'a>(prefix: &'a [u32], again: &'a [u32], words: &[u32], work: &mut [
     ensures { λ _. ⌜ Fills (scheduleFrame (now (prefix .entry)) (now (again .entry))) (now (words .entry)) (length (now (again .entry))) (suc row) (now (work .entry)) (now (work .exit)) ⌝ }
 {
     let lap = again.len();
-    let cols = 256 + lap * (5 - height(words, row, Side::Future));
+    let cols = 256 + lap * (Schedule::MAX_HEIGHT - height(words, row, Side::Future));
     match entry_at(words, row) {
         Entry::Atom(a) => atom_row(prefix, again, work, row, a, cols),
         Entry::Not(l) => plain_row(work, row, Plain::Not, l, l, cols),
