@@ -32,13 +32,13 @@ pub enum Plain {
     And,
 }
 
-fn holds(cell: u16) -> bool
+pub fn holds(cell: u16) -> bool
     ensures { λ r. ⌜ r ≡ holdsIn cell ⌝ }
 {
     8191 < cell
 }
 
-fn pro(cell: u16) -> u32
+pub fn pro(cell: u16) -> u32
     ensures { λ r. ⌜ (r ≡ proOf cell) × (r ≤ 65535) ⌝ }
 {
     if 8191 < cell {
@@ -47,7 +47,7 @@ fn pro(cell: u16) -> u32
     4096
 }
 
-fn con(cell: u16) -> u32
+pub fn con(cell: u16) -> u32
     ensures { λ r. ⌜ (r ≡ conOf cell) × (r ≤ 65535) ⌝ }
 {
     if 8191 < cell {

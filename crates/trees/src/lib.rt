@@ -419,7 +419,7 @@ fn list_plan(
 }
 
 // The test of one node: on its word, its entry, its position and the needed verdict; it sees no other word.
-fn node<'a>(
+pub fn node<'a>(
     prefix: &'a [u32],
     again: &'a [u32],
     table: &[u32],
@@ -462,7 +462,7 @@ fn node<'a>(
 }
 
 // The part that stands at a place in tree order.
-fn part_at(demands: Demands, m: usize) -> Part
+pub fn part_at(demands: Demands, m: usize) -> Part
     requires { ⌜ (m < demands .fixed + demands .count) × (demands .from + demands .count < 2 ^ 63) ⌝ }
     ensures { λ r. ⌜ r ≡ partOf demands m ⌝ }
 {
