@@ -14,5 +14,6 @@ pub mod JudgedNodes
 pub mod Claims
 pub mod Beginnings
 pub mod Order
+pub mod WordOrder
 pub mod Walked
 pub mod Determined

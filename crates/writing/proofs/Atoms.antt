@@ -1,0 +1,41 @@
+-- An entry's atom is below 32, so it fits the field of a word.
+-- Assumes nothing.
+use Prim.Native.Nat.{ℕ, _/_, _%_, _<_}
+use mathlib.Core.Path.{_≡_}
+use mathlib.Core.Bool.{true}
+use native.Mathlib.Omega.{arith}
+use borrow.Author.Tests.{ltb-true}
+use lib.Dec.{eqb, ltb}
+use Rattle.rules.specs.Formula.{Formula}
+use Rattle.rules.specs.Tables.{build}
+use Rattle.rules.specs.Entries.{isAlone, areEarlier, byKind, pairOf, entryFrom, entryOf}
+use Rattle.rules.specs.declared.Entry.{Entry}
+use Rattle.rules.specs.declared.Entry.the-variants.{Not, Broken}
+use Rattle.rules.proofs.Entries.{cond-elim, and-both}
+use Rattle.trees.proofs.Needs.{formulaAtom}
+
+record SmallAtom (x : Entry) : Type 0 where
+  small : (part : ℕ → Formula) → formulaAtom (build part x) < 32
+
+pair-small : (k l r : ℕ) → SmallAtom (byKind k l r)
+pair-small k l r =
+    cond-elim SmallAtom (eqb k 2) (λ _. record { small = λ part. omega arith })
+    (λ _. cond-elim SmallAtom (eqb k 3) (λ _. record { small = λ part. omega arith })
+    (λ _. cond-elim SmallAtom (eqb k 4) (λ _. record { small = λ part. omega arith })
+    (λ _. cond-elim SmallAtom (eqb k 5) (λ _. record { small = λ part. omega arith }) (λ _. record { small = λ part. omega arith }))))
+
+alone-small : (l r : ℕ) → isAlone 32 l r ≡ true → l < 32
+unfolding isAlone
+alone-small l r e = ltb-true l 32 (and-both (ltb l 32) (eqb r 0) e .0)
+
+pub atom-small : (i w : ℕ) (part : ℕ → Formula) → formulaAtom (build part (entryOf i w)) < 32
+unfolding entryOf entryFrom pairOf
+atom-small i w =
+    let k = w / 65536 in
+    let l = w / 256 % 256 in
+    let r = w % 256 in
+    let none : SmallAtom Broken = record { small = λ part. omega arith } in
+    let negated : SmallAtom (Not l) = record { small = λ part. omega arith } in
+    cond-elim SmallAtom (eqb k 0) (λ _. cond-elim SmallAtom (isAlone 32 l r) (λ e. record { small = λ part. alone-small l r e }) (λ _. none))
+    (λ _. cond-elim SmallAtom (eqb k 1) (λ _. cond-elim SmallAtom (isAlone i l r) (λ _. negated) (λ _. none))
+    (λ _. cond-elim SmallAtom (areEarlier i l r) (λ _. pair-small k l r) (λ _. none))) .small

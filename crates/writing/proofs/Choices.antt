@@ -1,0 +1,75 @@
+-- What depends on the verdict, the direction or a test: a law a return.
+-- Assumes nothing.
+use mathlib.Core.Path.{_≡_, sym, ap, _∙_}
+use mathlib.Core.Bool.{Bool, true, false}
+use Prim.Native.Nat.{ℕ, _+_, _-_}
+use native.Mathlib.Numerals.{add-one}
+use borrow.Author.Tests.{eq-eqb, ne-eqb}
+use Rattle.search.specs.Cells.{proOf, conOf}
+use Rattle.writing.specs.Scans.{sizeIn, stepFrom, membersOf, listedOf}
+use Rattle.writing.specs.Roots.{sidedOf, orRule, andRule}
+
+pub size-held : (held : Bool) (c : ℕ) → held ≡ true → proOf c ≡ sizeIn held c
+unfolding sizeIn
+size-held held c h = simp h
+
+pub size-not : (held : Bool) (c : ℕ) → held ≡ false → conOf c ≡ sizeIn held c
+unfolding sizeIn
+size-not held c h = simp h
+
+pub step-ahead : (ahead : Bool) (i n : ℕ) → ahead ≡ true → i + n ≡ stepFrom ahead i n
+unfolding stepFrom
+step-ahead ahead i n h = simp h
+
+pub step-back : (ahead : Bool) (i n : ℕ) → ahead ≡ false → i - n ≡ stepFrom ahead i n
+unfolding stepFrom
+step-back ahead i n h = simp h
+
+pub members-held : (held : Bool) (n : ℕ) → held ≡ true → n ≡ membersOf held n
+unfolding membersOf
+members-held held n h = simp h
+
+pub members-not : (held : Bool) (n : ℕ) → held ≡ false → n + 1 ≡ membersOf held n
+unfolding membersOf
+members-not held n h = simp (h, add-one n)
+
+pub listed-held : (held : Bool) (sum next : ℕ) → held ≡ true → sum ≡ listedOf held sum next
+unfolding listedOf
+listed-held held sum next h = simp h
+
+pub listed-not : (held : Bool) (sum next : ℕ) → held ≡ false → sum + next ≡ listedOf held sum next
+unfolding listedOf
+listed-not held sum next h = simp h
+
+pub sided-held : (held : Bool) (rule : ℕ) → held ≡ true → rule ≡ sidedOf held rule
+unfolding sidedOf
+sided-held held rule h = simp h
+
+pub sided-not : (held : Bool) (rule : ℕ) → held ≡ false → rule + 1 ≡ sidedOf held rule
+unfolding sidedOf
+sided-not held rule h = simp h
+
+module _ (held : Bool) (left size : ℕ) where
+  pub or-violated : held ≡ false → 7 ≡ orRule held left size
+  unfolding orRule
+  or-violated h = simp h
+
+  pub or-left : {x : ℕ} → held ≡ true → x ≡ proOf left → 1 + x ≡ size → 5 ≡ orRule held left size
+  unfolding orRule
+  or-left h e met = simp (h, eq-eqb (1 + proOf left) size (ap (λ n. 1 + n) (sym e) ∙ met))
+
+  pub or-right : {x : ℕ} → held ≡ true → x ≡ proOf left → ¬ (1 + x ≡ size) → 6 ≡ orRule held left size
+  unfolding orRule
+  or-right h e miss = simp (h, ne-eqb (1 + proOf left) size (λ met. miss (ap (λ n. 1 + n) e ∙ met)))
+
+  pub and-holds : held ≡ true → 8 ≡ andRule held left size
+  unfolding andRule
+  and-holds h = simp h
+
+  pub and-left : {x : ℕ} → held ≡ false → x ≡ conOf left → 1 + x ≡ size → 9 ≡ andRule held left size
+  unfolding andRule
+  and-left h e met = simp (h, eq-eqb (1 + conOf left) size (ap (λ n. 1 + n) (sym e) ∙ met))
+
+  pub and-right : {x : ℕ} → held ≡ false → x ≡ conOf left → ¬ (1 + x ≡ size) → 10 ≡ andRule held left size
+  unfolding andRule
+  and-right h e miss = simp (h, ne-eqb (1 + conOf left) size (λ met. miss (ap (λ n. 1 + n) e ∙ met)))

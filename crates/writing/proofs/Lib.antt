@@ -1,0 +1,16 @@
+pub mod Choices
+pub mod Scanning
+pub mod RootLaws
+pub mod Words
+pub mod Sums
+pub mod Meets
+pub mod Finds
+pub mod PartSizes
+pub mod ListRoots
+pub mod ListFinds
+pub mod PlainFinds
+pub mod Atoms
+pub mod Leading
+pub mod Putting
+pub mod Underway
+pub mod Planned

@@ -1,0 +1,31 @@
+-- Sums over a run of positions as sums over the steps from its nearer end, and how they grow.
+-- Assumes nothing.
+use Prim.Native.Nat.{ℕ, zero, suc, _+_, _-_, _<_, _≤_}
+use mathlib.Core.Path.{_≡_, refl, ap}
+use mathlib.Core.Logic.{by-cases}
+use native.Mathlib.Decide.{decLe}
+use native.Mathlib.Omega.{arith}
+use Rattle.theory.specs.RunCosts.{sumRun}
+use Rattle.theory.proofs.CostsRuns.{run-grown}
+
+module _ (size : ℕ → ℕ) where
+  pub run-ahead : (i n : ℕ) → sumRun size i n ≡ sumRun (λ k. size (i + k)) 0 n
+  run-ahead i zero = refl
+  run-ahead i (suc n) =
+      let last : size (i + (0 + n)) ≡ size (i + n) = ap size (omega arith) in
+      omega (arith, run-grown size i n, run-ahead i n, run-grown (λ k. size (i + k)) 0 n, last)
+
+  pub run-back : (i from n : ℕ) → n ≤ i + 1 → from ≡ i + 1 - n → sumRun size from n ≡ sumRun (λ k. size (i - k)) 0 n
+  run-back i from zero le e = refl
+  run-back i from (suc n) le e =
+      let last : size (i - (0 + n)) ≡ size from = ap size (omega arith) in
+      omega (arith, run-back i (suc from) n (omega arith) (omega arith), run-grown (λ k. size (i - k)) 0 n, last)
+
+  -- each member adds 1 at least
+  pub sum-grows : (a b : ℕ) → a ≤ b → ((k : ℕ) → k < b → 1 ≤ size k) → sumRun size 0 a + (b - a) ≤ sumRun size 0 b
+  sum-grows a zero le some = let none : a ≡ 0 = omega arith in omega (arith, ap (sumRun size 0) none)
+  sum-grows a (suc b) le some = by-cases (decLe a b)
+      (λ in-it.
+      let last : size (0 + b) ≡ size b = ap size (omega arith) in
+      omega (arith, sum-grows a b in-it (λ k lt. some k (omega arith)), run-grown size 0 b, last, some b (omega arith)))
+      (λ all. let same : a ≡ suc b = omega arith in omega (arith, ap (sumRun size 0) same))

@@ -1,0 +1,11 @@
+-- `writing::plain_root` meets its contract.
+-- Assumes nothing.
+use mathlib.Core.Path.{refl}
+use Rattle.writing.proofs.plain_root.Statement.{statement}
+use Rattle.writing.proofs.plain_root.Tie as tie
+
+returns : tie.Need-returns
+returns c = refl
+
+pub plain-root-spec : {M : Type 1} → statement M
+plain-root-spec = tie.close (tie.spec returns)

@@ -1,0 +1,3 @@
+pub mod Scans
+pub mod Roots
+pub mod Writes
