@@ -1,0 +1,49 @@
+-- The cell of a formula at a position, computed from the formula alone, says what it means.
+-- Assumes nothing.
+use Prim.Native.Nat.{ℕ, max}
+use mathlib.Core.Path.{refl}
+use native.Mathlib.Omega.{arith}
+use Rattle.rules.specs.Formula.{Formula, atom, notᶠ, orᶠ, andᶠ, since, until}
+use Rattle.trees.specs.Rules.{Frame, claim}
+use Rattle.trees.specs.declared.Verdict.{Verdict}
+use Rattle.trees.specs.declared.Verdict.the-variants.{Holds, Violated}
+use Rattle.theory.specs.Words.{Repeats}
+use Rattle.theory.specs.Threshold.{threshold}
+use Rattle.theory.specs.Repeating.{repeatFrame}
+use Rattle.theory.specs.Sizes.{Size}
+use Rattle.theory.proofs.Sound.{repeats-lawful}
+use Rattle.search.specs.Cells.{proOf, conOf, cellOf, atomCell, notState, orState, andState, sinceCell, closed, untilCell}
+use Rattle.search.specs.Meant.{CellFor}
+use Rattle.search.proofs.Meant.{since-cell, until-cell}
+use Rattle.search.proofs.MeantPlain.{atom-cell, not-cell, or-cell, and-cell}
+
+-- In a word that repeats from u on with the lap v. An until looks no further than its window, so that even far positions are soon computed.
+abbrev pub cellAt : (ℕ → ℕ) → ℕ → ℕ → Formula → ℕ → ℕ
+cellAt word u v (atom a) i = atomCell word a i
+cellAt word u v (notᶠ f) i = cellOf (notState (cellAt word u v f i))
+cellAt word u v (orᶠ f g) i = cellOf (orState (cellAt word u v f i) (cellAt word u v g i))
+cellAt word u v (andᶠ f g) i = cellOf (andState (cellAt word u v f i) (cellAt word u v g i))
+cellAt word u v (since f g) i = sinceCell (cellAt word u v f) (cellAt word u v g) i
+cellAt word u v (until f g) i =
+    untilCell (cellAt word u v f) (cellAt word u v g) (max i (threshold u v g)) v (threshold u v g) i
+
+module _ {word : ℕ → ℕ} {u v : ℕ} (w : Repeats word u v) where
+  pub cell-computed : (f : Formula) (i : ℕ) → CellFor (repeatFrame word u v) f i (cellAt word u v f i)
+  unfolding atomCell sinceCell untilCell closed
+  cell-computed (atom a) i = atom-cell (repeats-lawful w) a
+  cell-computed (notᶠ f) i = not-cell (repeats-lawful w) (cell-computed f i)
+  cell-computed (orᶠ f g) i = or-cell (repeats-lawful w) (cell-computed f i) (cell-computed g i)
+  cell-computed (andᶠ f g) i = and-cell (repeats-lawful w) (cell-computed f i) (cell-computed g i)
+  cell-computed (since f g) i =
+      since-cell (cellAt word u v f) (cellAt word u v g) (repeats-lawful w) i (λ k lt. cell-computed f k) (λ k lt. cell-computed g k)
+  cell-computed (until f g) i =
+      until-cell w (cellAt word u v f) (cellAt word u v g) (λ k lt. cell-computed f k) (λ k lt. cell-computed g k) i _ (omega arith) refl _ refl
+
+-- the size that a cell has for a verdict
+abbrev pub sizeIn : Verdict → ℕ → ℕ
+sizeIn Holds c = proOf c
+sizeIn Violated c = conOf c
+
+pub cell-size : {frame : Frame} {f : Formula} {i c : ℕ} → CellFor frame f i c → (s : Verdict) → Size frame (claim f i s) (sizeIn s c)
+cell-size c Holds = c .pro
+cell-size c Violated = c .con
