@@ -5,3 +5,4 @@ pub mod Meant
 pub mod MeantPlain
 pub mod Filling
 pub mod Driven
+pub mod Clearing

@@ -17,6 +17,7 @@ ghost use Rattle.theory.specs.RunCosts.{sumRun};
 ghost use Rattle.search.specs.Cells.{holdsIn, proOf, conOf, goesOn, cellOf, notState, orState, andState, plainState, plainCell, stepped, sinceCell, untilState, closed, untilCell, Slid, atomState, atomCell};
 ghost use Rattle.search.specs.Rows.{rowOf, Ready, Filled};
 ghost use Rattle.search.specs.Filling.{FilledBelow, Limited, Fills};
+ghost use Rattle.search.specs.Clearing.{cleared};
 
 // Where a loop along a row stands: the verdict, and the least sizes of trees of either verdict, or 4,096.
 pub struct State {
@@ -341,5 +342,17 @@ pub fn fill<'a>(prefix: &'a [u32], again: &'a [u32], words: &[u32], work: &mut [
     while row <= entry {
         fill_row(prefix, again, words, work, row);
         row = row + 1;
+    }
+}
+
+// The numbers of the filling become 0 again, whatever they were.
+pub fn clear(work: &mut [u16])
+    requires { ⌜ 16384 ≤ length (now work) ⌝ }
+    ensures { λ _. ⌜ now (work .exit) ≡ cleared (now (work .entry)) ⌝ }
+{
+    let mut k = 0;
+    while k < 16384 {
+        work[k] = 0;
+        k = k + 1;
     }
 }

@@ -1,0 +1,43 @@
+-- Clearing the work slice: what a loop from the front has cleared so far, and the laws of one turn.
+-- Assumes nothing.
+use mathlib.Core.Path.{_≡_, refl, sym, ap, _∙_}
+use mathlib.Core.List.{List, _++_}
+use Prim.Native.Nat.{ℕ, _+_, _-_, _<_, _≤_}
+use native.Mathlib.Omega.{arith}
+use borrow.Author.Fill.{fill-none, fill-more}
+use lib.ListN.{length, length-set, length-drop, getD, set, drop, replicate}
+use lib.Seq.{getD-drop, ext-getD}
+use Rattle.trees.specs.Rules.{Frame}
+use Rattle.search.specs.Filling.{Fills}
+use Rattle.search.specs.Clearing.{cleared}
+
+-- The first k numbers are 0, all else is as found.
+pub record Clears (k : ℕ) (found work : List ℕ) : Type 0 where
+  pub below : k ≤ 16384
+  pub same-length : length work ≡ length found
+  pub front : work ≡ replicate k 0 ++ drop k found
+
+pub clears-none : (found : List ℕ) → Clears 0 found found
+clears-none found = record { below = omega arith; same-length = refl; front = fill-none found 0 }
+
+pub clears-turn : {k : ℕ} {found work : List ℕ} → Clears k found work → k < 16384 → 16384 ≤ length found → Clears (k + 1) found (set work k 0)
+clears-turn {k} {found} {work} so-far lt room = record {
+  below = omega arith;
+  same-length = length-set work k 0 ∙ so-far .same-length;
+  front = ap (λ l. set l k 0) (so-far .front) ∙ fill-more k 0 found (omega arith);
+}
+
+pub clears-done : {k : ℕ} {found work : List ℕ} → Clears k found work → 16384 ≤ k → work ≡ cleared found
+unfolding cleared
+clears-done {k} {found} so-far all =
+    let whole : k ≡ 16384 = omega (arith, so-far .below) in
+    so-far .front ∙ ap (λ n. replicate n 0 ++ drop n found) whole
+
+-- What was filled in between does not show.
+pub fills-cleared : {frame : Frame} {table : List ℕ} {v e : ℕ} {found left : List ℕ} → Fills frame table v e found left → cleared left ≡ cleared found
+unfolding cleared
+fills-cleared {found = found} {left} fills =
+    ap (λ l. replicate 16384 0 ++ l)
+    (ext-getD 0 (drop 16384 left) (drop 16384 found)
+    (length-drop 16384 left ∙ ap (λ n. n - 16384) (fills .same-length) ∙ sym (length-drop 16384 found))
+    (λ i lt. getD-drop 16384 left i 0 ∙ fills .beyond (16384 + i) (omega arith) ∙ sym (getD-drop 16384 found i 0)))
