@@ -1,3 +1,7 @@
 pub mod Answers
 pub mod Accepted
 pub mod Checked
+pub mod Worked
+pub mod Told
+pub mod Found
+pub mod Wrote

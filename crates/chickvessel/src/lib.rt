@@ -32,8 +32,11 @@ pub enum Outcome {
     TooHigh,
     NoEntry,
     TooFar,
+    ShortWork,
     NotValid(u32),
     LongTree,
+    TooLarge,
+    ShortTree,
     Judged(Verdict, u32),
 }
 
@@ -211,8 +214,11 @@ fn answer_of(outcome: Outcome) -> Answer
         Outcome::TooHigh => of_figures(5, 0, 0, 0),
         Outcome::NoEntry => of_figures(6, 0, 0, 0),
         Outcome::TooFar => of_figures(7, 0, 0, 0),
+        Outcome::ShortWork => of_figures(8, 0, 0, 0),
         Outcome::NotValid(place) => of_figures(9, place, 0, 0),
         Outcome::LongTree => of_figures(10, 0, 0, 0),
+        Outcome::TooLarge => of_figures(11, 0, 0, 0),
+        Outcome::ShortTree => of_figures(12, 0, 0, 0),
         Outcome::Judged(verdict, size) => of_figures(0, 0, verdict_figure(verdict), size),
     }
 }

@@ -48,17 +48,35 @@ enum-told-7 c = search needs
 of-figures-requires-7 : tie.Need-of-figures-requires-7
 of-figures-requires-7 c κs = search needs
 
-enum-known-outcome : tie.Need-enum-known-outcome
-enum-known-outcome c = search needs
+enum-told-8 : tie.Need-enum-told-8
+enum-told-8 c = search needs
 
 of-figures-requires-8 : tie.Need-of-figures-requires-8
 of-figures-requires-8 c κs = search needs
 
-enum-told-8 : tie.Need-enum-told-8
-enum-told-8 c = search needs
+enum-known-outcome : tie.Need-enum-known-outcome
+enum-known-outcome c = search needs
 
 of-figures-requires-9 : tie.Need-of-figures-requires-9
 of-figures-requires-9 c κs = search needs
+
+enum-told-9 : tie.Need-enum-told-9
+enum-told-9 c = search needs
+
+of-figures-requires-10 : tie.Need-of-figures-requires-10
+of-figures-requires-10 c κs = search needs
+
+enum-told-10 : tie.Need-enum-told-10
+enum-told-10 c = search needs
+
+of-figures-requires-11 : tie.Need-of-figures-requires-11
+of-figures-requires-11 c κs = search needs
+
+enum-told-11 : tie.Need-enum-told-11
+enum-told-11 c = search needs
+
+of-figures-requires-12 : tie.Need-of-figures-requires-12
+of-figures-requires-12 c κs = search needs
 
 enum-known-outcome-2 : tie.Need-enum-known-outcome-2
 enum-known-outcome-2 c = search needs
@@ -66,8 +84,8 @@ enum-known-outcome-2 c = search needs
 verdict-figure-requires : tie.Need-verdict-figure-requires
 verdict-figure-requires c κs = search needs
 
-of-figures-requires-10 : tie.Need-of-figures-requires-10
-of-figures-requires-10 c κs = search needs
+of-figures-requires-13 : tie.Need-of-figures-requires-13
+of-figures-requires-13 c κs = search needs
 
 returns : tie.Need-returns
 returns c = c .of-figures .ensures ∙ ap figuresOf (sym (c .before .enum-told .given .1))
@@ -91,15 +109,24 @@ returns-7 : tie.Need-returns-7
 returns-7 c = c .of-figures7 .ensures ∙ ap figuresOf (sym (c .before .enum-told7 .given .1))
 
 returns-8 : tie.Need-returns-8
-returns-8 c = c .of-figures8 .ensures ∙ ap figuresOf (sym (c .before .before .outcome .given .1))
+returns-8 c = c .of-figures8 .ensures ∙ ap figuresOf (sym (c .before .enum-told8 .given .1))
 
 returns-9 : tie.Need-returns-9
-returns-9 c = c .of-figures9 .ensures ∙ ap figuresOf (sym (c .before .enum-told8 .given .1))
+returns-9 c = c .of-figures9 .ensures ∙ ap figuresOf (sym (c .before .before .outcome .given .1))
 
 returns-10 : tie.Need-returns-10
-returns-10 c =
+returns-10 c = c .of-figures10 .ensures ∙ ap figuresOf (sym (c .before .enum-told9 .given .1))
+
+returns-11 : tie.Need-returns-11
+returns-11 c = c .of-figures11 .ensures ∙ ap figuresOf (sym (c .before .enum-told10 .given .1))
+
+returns-12 : tie.Need-returns-12
+returns-12 c = c .of-figures12 .ensures ∙ ap figuresOf (sym (c .before .enum-told11 .given .1))
+
+returns-13 : tie.Need-returns-13
+returns-13 c =
     let known = c .before .before .before in
-    c .of-figures10 .ensures ∙ ap (λ v. figures 0 0 v (known .outcome2 .given .0 .1 .0)) (c .before .verdict-figure .ensures) ∙ ap figuresOf (sym (known .outcome2 .given .1))
+    c .of-figures13 .ensures ∙ ap (λ v. figures 0 0 v (known .outcome2 .given .0 .1 .0)) (c .before .verdict-figure .ensures) ∙ ap figuresOf (sym (known .outcome2 .given .1))
 
 pub answer-of-spec : {M : Type 1} → statement M
 answer-of-spec =
@@ -119,13 +146,19 @@ answer-of-spec =
     of-figures-requires-6
     enum-told-7
     of-figures-requires-7
-    enum-known-outcome
-    of-figures-requires-8
     enum-told-8
+    of-figures-requires-8
+    enum-known-outcome
     of-figures-requires-9
+    enum-told-9
+    of-figures-requires-10
+    enum-told-10
+    of-figures-requires-11
+    enum-told-11
+    of-figures-requires-12
     enum-known-outcome-2
     verdict-figure-requires
-    of-figures-requires-10
+    of-figures-requires-13
     returns
     returns-2
     returns-3
@@ -135,4 +168,7 @@ answer-of-spec =
     returns-7
     returns-8
     returns-9
-    returns-10)
+    returns-10
+    returns-11
+    returns-12
+    returns-13)
