@@ -1,6 +1,6 @@
 -- A question under several refusals: the first that is given decides, and where none is, the question is handed on.
 -- Assumes nothing.
-use mathlib.Core.Path.{_≡_, sym, ap, subst, _∙_}
+use mathlib.Core.Path.{_≡_, refl, sym, ap, subst, _∙_}
 use mathlib.Core.Bool.{true, false, cond, true≢false, false≢true}
 use mathlib.Core.List.{List}
 use Prim.Native.Nat.{ℕ, _-_, _<_, _≤_}
@@ -8,7 +8,7 @@ use native.Mathlib.Omega.{arith}
 use borrow.Author.Tests.{eq-eqb, ne-eqb, lt-ltb, le-ltb}
 use lib.Dec.{eqb}
 use lib.ListN.{length, take, replicate, length-append}
-use lib.Seq.{take-append-seam}
+use lib.Seq.{length-take-le, take-append-seam}
 use Rattle.schedule.specs.Limits.{maxEntries}
 use Rattle.schedule.specs.Figures.{Figures, bare}
 use Rattle.schedule.specs.declared.Schedule.{Schedule}
@@ -17,6 +17,7 @@ use Rattle.rules.specs.declared.Table.{Table}
 use Rattle.rules.specs.declared.Reading.{Reading}
 use Rattle.chickvessel.specs.Answers.{figuresOf}
 use Rattle.chickvessel.specs.Accepted.{Hands, orElse, farRefusal}
+use Rattle.chickvessel.specs.Worked.{workLength, shortRefusal}
 use Rattle.chickvessel.specs.declared.Accepted.{Accepted}
 use Rattle.chickvessel.specs.declared.Outcome.{Outcome}
 
@@ -28,6 +29,12 @@ far i lt = simp (lt-ltb 255 i lt)
 
 pub near : (i : ℕ) → i ≤ 255 → farRefusal i ≡ 0
 near i le = simp (le-ltb 255 i le)
+
+pub short : (len : ℕ) → len < workLength → shortRefusal len ≡ 8
+short len lt = simp (lt-ltb len workLength lt)
+
+pub enough : (len : ℕ) → workLength ≤ len → shortRefusal len ≡ 0
+enough len le = simp (le-ltb len workLength le)
 
 pub first-given : (n m : ℕ) → (n ≡ 0 → ⊥) → orElse n m ≡ n
 first-given n m some = simp (ne-eqb n 0 some)
@@ -56,15 +63,25 @@ module _ {lengths : Schedule} {table : Table} where
   pub hands-later : (n m : ℕ) (a : Accepted) → n ≡ 0 → Hands m lengths table a → Hands (orElse n m) lengths table a
   hands-later n m a none h = subst (λ j. Hands j lengths table a) (sym (first-passes n m none)) h
 
--- a list that is read without refusal is the first part of its record
-module _ (list : List ℕ) (r : Reading) (h : Reads list r) (passed : readRefusal list ≡ 0) where
-  pub table-read : r .table ≡ tableOf list
-  table-read = h .table ∙ ap (λ n. cond (eqb n 0) (tableOf list) noTable) passed
+  -- a question that is judged already, under one refusal more
+  pub hands-still : (n m : ℕ) (a : Accepted) → a .passed ≡ false → Hands n lengths table a → Hands (orElse n m) lengths table a
+  hands-still n m a p h = hands-first n m n a refl (h .refused p .1) h
 
-  pub table-fits : r .table .len ≤ length (r .table .words)
+  pub hands-on : (n m : ℕ) (a : Accepted) → a .passed ≡ true → m ≡ 0 → Hands n lengths table a → Hands (orElse n m) lengths table a
+  hands-on n m a p none h = let on = h .passes p in hands-passed (orElse n m) a p (first-passes n m (on .0) ∙ none) (on .1) (on .2)
+
+-- a list that is read without refusal is the first part of its record
+pub table-read : (list : List ℕ) (r : Reading) → Reads list r → readRefusal list ≡ 0 → r .table ≡ tableOf list
+table-read list r h passed = h .table ∙ ap (λ n. cond (eqb n 0) (tableOf list) noTable) passed
+
+module _ (list : List ℕ) (t : Table) (read : t ≡ tableOf list) where
+  pub table-fits : t .len ≤ length (t .words)
   table-fits =
-      subst (λ t. t .len ≤ length (t .words)) (sym table-read)
+      subst (λ x. x .len ≤ length (x .words)) (sym read)
       (omega (arith, length-append list (replicate (maxEntries - length list) 0)))
 
-  pub table-words : take (r .table .len) (r .table .words) ≡ list
-  table-words = ap (λ t. take (t .len) (t .words)) table-read ∙ take-append-seam list (replicate (maxEntries - length list) 0)
+  pub table-length : t .len ≡ length (take (t .len) (t .words))
+  table-length = sym (length-take-le (t .len) (t .words) table-fits)
+
+  pub table-words : take (t .len) (t .words) ≡ list
+  table-words = ap (λ x. take (x .len) (x .words)) read ∙ take-append-seam list (replicate (maxEntries - length list) 0)

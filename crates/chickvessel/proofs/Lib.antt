@@ -1,4 +1,5 @@
 pub mod Accepting
 pub mod Limits
 pub mod Judging
+pub mod Looking
 pub mod Determined

@@ -5,3 +5,4 @@ pub mod Worked
 pub mod Told
 pub mod Found
 pub mod Wrote
+pub mod Looked

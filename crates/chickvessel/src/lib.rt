@@ -14,14 +14,22 @@ ghost use Rattle.rules.specs.Asked.{askRefusal};
 ghost use Rattle.trees.specs.Frames.{scheduleFrame};
 ghost use Rattle.trees.specs.Plans.{signOf};
 ghost use Rattle.trees.specs.Walks.{Within};
+ghost use Rattle.search.specs.Filling.{Limited};
 ghost use Rattle.chickvessel.specs.Answers.{figures, figuresOf, answerOf};
-ghost use Rattle.chickvessel.specs.Accepted.{maxWords, Hands, orElse, farRefusal, questionRefusal};
+ghost use Rattle.chickvessel.specs.Accepted.{maxPosition, maxWords, Hands, orElse, farRefusal, questionRefusal};
 ghost use Rattle.chickvessel.specs.Checked.{Judgement, Checked};
+ghost use Rattle.chickvessel.specs.Worked.{workRefusal};
+ghost use Rattle.chickvessel.specs.Told.{Told};
+ghost use Rattle.chickvessel.specs.Found.{Found};
+ghost use Rattle.chickvessel.specs.Looked.{verdictIn, sizeIn, toldBy, foundBy, Reads, Looked};
 
 // The largest position that can be asked, and the most words of a tree.
 const MAX_POSITION: usize = 255;
 
 const MAX_WORDS: usize = 4095;
+
+// The least length of a work slice.
+const WORK_LENGTH: usize = 16384;
 
 // Every answer of every entry point: a refusal, or a verdict with a size.
 pub enum Outcome {
@@ -182,6 +190,143 @@ pub fn check<'a>(
     judge(prefix, again, &words[..len], entry, position, tree)
 }
 
+// Refusals 1 to 8 in order, for the entry points that work in a lent slice.
+fn accept_work(
+    prefix: usize,
+    again: usize,
+    list: &[u32],
+    entry: usize,
+    position: usize,
+    work: usize,
+) -> Accepted
+    ensures { λ r. ⌜ Hands (workRefusal prefix again (now (list .entry)) entry position work)
+        (record { prefix = prefix; again = again }) (tableOf (now (list .entry))) r ⌝ }
+{
+    let question = accept(prefix, again, list, entry, position);
+    if !question.passed {
+        return question;
+    }
+    if work < WORK_LENGTH {
+        return refused(Outcome::ShortWork);
+    }
+    question
+}
+
+// The slice filled up to the asked entry, and the cell of the asked position.
+fn filled<'a>(
+    prefix: &'a [u32],
+    again: &'a [u32],
+    words: &[u32],
+    work: &mut [u16],
+    entry: usize,
+    position: usize,
+) -> u16
+    requires { ⌜ Limited (length (now prefix)) (length (now again)) (now words) entry (length (now work)) × (position ≤ maxPosition) ⌝ }
+    ensures { λ r. ⌜ Reads (now (prefix .entry)) (now (again .entry)) (now (words .entry)) entry position (now (work .entry)) (now (work .exit)) r ⌝ }
+{
+    search::fill(prefix, again, words, work, entry);
+    work[entry * 512 + position]
+}
+
+// What truth and find answer from: a refusal, or the cell of the question.
+pub enum Look {
+    Refused(Outcome),
+    Cell(u16),
+}
+
+// One filling for one question, and the slice cleared again.
+fn look_up<'a>(
+    prefix: &'a [u32],
+    again: &'a [u32],
+    list: &[u32],
+    entry: usize,
+    position: usize,
+    work: &mut [u16],
+) -> Look
+    ensures { λ r. ⌜ Looked (now (prefix .entry)) (now (again .entry)) (now (list .entry)) entry position (now (work .entry)) (now (work .exit)) r ⌝ }
+{
+    let question = accept_work(prefix.len(), again.len(), list, entry, position, work.len());
+    let outcome = question.outcome;
+    if !question.passed {
+        return Look::Refused(outcome);
+    }
+    let table = question.table;
+    let words = table.words;
+    let len = table.len;
+    let cell = filled(prefix, again, &words[..len], work, entry, position);
+    search::clear(work);
+    Look::Cell(cell)
+}
+
+fn verdict_in(cell: u16) -> Verdict
+    ensures { λ r. ⌜ r ≡ verdictIn cell ⌝ }
+{
+    if search::holds(cell) {
+        return Verdict::Holds;
+    }
+    Verdict::Violated
+}
+
+fn size_in(cell: u16) -> u32
+    ensures { λ r. ⌜ r ≡ sizeIn cell ⌝ }
+{
+    if search::holds(cell) {
+        return search::pro(cell);
+    }
+    search::con(cell)
+}
+
+fn told_by(cell: u16) -> Outcome
+    ensures { λ r. ⌜ figuresOf r ≡ toldBy cell ⌝ }
+{
+    Outcome::Judged(verdict_in(cell), 0)
+}
+
+// 11, or the least size.
+fn found_by(cell: u16) -> Outcome
+    ensures { λ r. ⌜ figuresOf r ≡ foundBy cell ⌝ }
+{
+    let size = size_in(cell);
+    if MAX_WORDS < size as usize {
+        return Outcome::TooLarge;
+    }
+    Outcome::Judged(verdict_in(cell), size)
+}
+
+// Whether an entry of a table holds at a position of a schedule, without a tree.
+pub fn truth<'a>(
+    prefix: &'a [u32],
+    again: &'a [u32],
+    list: &[u32],
+    entry: usize,
+    position: usize,
+    work: &mut [u16],
+) -> Outcome
+    ensures { λ r. ⌜ Told (now (prefix .entry)) (now (again .entry)) (now (list .entry)) entry position (now (work .entry)) (now (work .exit)) (figuresOf r) ⌝ }
+{
+    match look_up(prefix, again, list, entry, position, work) {
+        Look::Refused(outcome) => outcome,
+        Look::Cell(cell) => told_by(cell),
+    }
+}
+
+// The verdict and the size of the least tree for an entry of a table at a position of a schedule.
+pub fn find<'a>(
+    prefix: &'a [u32],
+    again: &'a [u32],
+    list: &[u32],
+    entry: usize,
+    position: usize,
+    work: &mut [u16],
+) -> Outcome
+    ensures { λ r. ⌜ Found (now (prefix .entry)) (now (again .entry)) (now (list .entry)) entry position (now (work .entry)) (now (work .exit)) (figuresOf r) ⌝ }
+{
+    match look_up(prefix, again, list, entry, position, work) {
+        Look::Refused(outcome) => outcome,
+        Look::Cell(cell) => found_by(cell),
+    }
+}
+
 fn of_figures(number: u32, place: u32, verdict: u32, size: u32) -> Answer
     ensures { λ r. ⌜ answerOf r ≡ figures number place verdict size ⌝ }
 {
@@ -235,4 +380,32 @@ pub extern "C" fn chickvessel_check<'a>(
     ensures { λ r. ⌜ Checked (now (prefix .entry)) (now (again .entry)) (now (table .entry)) entry position (now (tree .entry)) (answerOf r) ⌝ }
 {
     answer_of(check(prefix, again, table, entry, position, tree))
+}
+
+#[no_mangle]
+pub extern "C" fn chickvessel_truth<'a>(
+    prefix: &'a [u32],
+    again: &'a [u32],
+    table: &[u32],
+    entry: usize,
+    position: usize,
+    work: &mut [u16],
+) -> Answer
+    ensures { λ r. ⌜ Told (now (prefix .entry)) (now (again .entry)) (now (table .entry)) entry position (now (work .entry)) (now (work .exit)) (answerOf r) ⌝ }
+{
+    answer_of(truth(prefix, again, table, entry, position, work))
+}
+
+#[no_mangle]
+pub extern "C" fn chickvessel_find<'a>(
+    prefix: &'a [u32],
+    again: &'a [u32],
+    table: &[u32],
+    entry: usize,
+    position: usize,
+    work: &mut [u16],
+) -> Answer
+    ensures { λ r. ⌜ Found (now (prefix .entry)) (now (again .entry)) (now (table .entry)) entry position (now (work .entry)) (now (work .exit)) (answerOf r) ⌝ }
+{
+    answer_of(find(prefix, again, table, entry, position, work))
 }

@@ -2,6 +2,7 @@
 -- Assumes nothing.
 use mathlib.Core.Path.{refl, sym, ap, subst₂, _∙_}
 use native.Mathlib.Omega.{arith}
+use denote.Ref.{now}
 use Rattle.rules.specs.Tables.{readFigures}
 use Rattle.rules.specs.Asked.{askRefusal}
 use Rattle.chickvessel.specs.Accepted.{Hands, orElse, farRefusal}
@@ -32,7 +33,7 @@ enum-told-3 c = search needs
 accept-entry-requires : tie.Need-accept-entry-requires
 accept-entry-requires c κs =
     let read = c .before .before .before in
-    table-fits _ _ (read .read .ensures) (bare-number (sym (read .read .ensures .figures) ∙ ap readFigures (c .enum-told3 .given .1)))
+    table-fits (now (read .before .before .args .list)) _ (table-read _ _ (read .read .ensures) (bare-number (sym (read .read .ensures .figures) ∙ ap readFigures (c .enum-told3 .given .1))))
 
 returns : tie.Need-returns
 returns c =
@@ -51,9 +52,10 @@ returns-3 c =
     let read = c .before .before .before .before in
     let args = c .before .before .before .before .before .before .args in
     let number = bare-number (sym (read .read .ensures .figures) ∙ ap readFigures (c .before .enum-told3 .given .1)) in
+    let table = table-read _ _ (read .read .ensures) number in
     hands-later _ _ _ number
     (subst₂ (λ list table. Hands (orElse (askRefusal list (args .entry)) (farRefusal (args .position))) (args .lengths) table (c .accept-entry .result))
-    (table-words _ _ (read .read .ensures) number) (table-read _ _ (read .read .ensures) number) (c .accept-entry .ensures))
+    (table-words _ _ table) table (c .accept-entry .ensures))
 
 pub accept-table-spec : {M : Type 1} → statement M
 accept-table-spec =

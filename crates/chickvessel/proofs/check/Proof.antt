@@ -1,20 +1,16 @@
 -- `chickvessel::check` meets its contract: the question's refusal, 10, or what the words are judged to be.
 -- Assumes nothing.
-use mathlib.Core.Path.{_≡_, refl, sym, ap, subst, _∙_}
-use mathlib.Core.Bool.{true}
-use Prim.Native.Nat.{_-_, _≤_}
-use native.Mathlib.Omega.{arith}
+use mathlib.Core.Path.{_≡_, refl, subst}
 use borrow.Author.Needs.{needs}
 use borrow.Author.Tests.{not-true, not-false}
-use lib.ListN.{length, take, replicate, length-append}
-use lib.Seq.{length-take-le, take-append-seam}
+use lib.ListN.{length}
 use denote.Ref.{now}
-use Rattle.schedule.specs.Limits.{maxEntries}
 use Rattle.rules.specs.Tables.{formulaOf, tableOf}
 use Rattle.trees.specs.Frames.{scheduleFrame}
 use Rattle.chickvessel.specs.Answers.{figuresOf}
-use Rattle.chickvessel.specs.Accepted.{Hands, questionRefusal}
+use Rattle.chickvessel.specs.Accepted.{questionRefusal}
 use Rattle.chickvessel.specs.Checked.{Judgement, refused, long, judged}
+use Rattle.chickvessel.proofs.Accepting.{table-fits, table-length, table-words}
 use Rattle.chickvessel.proofs.Limits.{question-within}
 use Rattle.chickvessel.proofs.check.Statement.{statement}
 use Rattle.chickvessel.proofs.check.Tie as tie
@@ -41,24 +37,14 @@ module _ (c : tie.Else1) where
       let hands = c .before .before .accept .ensures .passes (not-false _ (c .if1 .left)) in
       (hands .0, hands .2)
 
-  table-fits : c .before .before .accept .result .table .len ≤ length (c .before .before .accept .result .table .words)
-  table-fits =
-      subst (λ t. t .len ≤ length (t .words)) (sym (passed .1))
-      (omega (arith, length-append (now (asked .args .list)) (replicate (maxEntries - length (now (asked .args .list))) 0)))
-
-  table-words : take (c .before .before .accept .result .table .len) (c .before .before .accept .result .table .words) ≡ now (asked .args .list)
-  table-words =
-      ap (λ t. take (t .len) (t .words)) (passed .1)
-      ∙ take-append-seam (now (asked .args .list)) (replicate (maxEntries - length (now (asked .args .list))) 0)
-
 returns-2 : tie.Need-returns-2
 returns-2 c = long (passed (c .before) .0) (c .if2 .taken) refl
 
 array-share-prefix-words : tie.Need-array-share-prefix-words
-array-share-prefix-words c = table-fits (c .before .before .before)
+array-share-prefix-words c = let test = c .before .before .before in table-fits (now (asked test .args .list)) _ (passed test .1)
 
 slice-aggregate-judge : tie.Need-slice-aggregate-judge
-slice-aggregate-judge c = sym (length-take-le _ _ (table-fits (c .before .before .before .before)))
+slice-aggregate-judge c = let test = c .before .before .before .before in table-length (now (asked test .args .list)) _ (passed test .1)
 
 judge-requires : tie.Need-judge-requires
 judge-requires c κs =
@@ -71,7 +57,7 @@ returns-3 c =
     let a = asked test .args in
     judged (passed test .0) (c .before .before .before .before .if2 .left)
     (subst (λ l. Judgement (scheduleFrame (now (a .prefix)) (now (a .again))) (formulaOf l (a .entry)) (a .position) (now (a .tree)) (figuresOf (c .judge .result)))
-    (table-words test) (c .judge .ensures))
+    (table-words _ _ (passed test .1)) (c .judge .ensures))
 
 pub check-spec : {M : Type 1} → statement M
 check-spec =

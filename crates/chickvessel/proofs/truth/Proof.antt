@@ -1,0 +1,43 @@
+-- `chickvessel::truth` meets its contract: what was looked up, a case a return.
+-- Assumes nothing.
+use Rattle.chickvessel.proofs.Looking.{looked-refused, looked-told}
+use borrow.Author.Needs.{needs}
+use Rattle.chickvessel.proofs.truth.Statement.{statement}
+use Rattle.chickvessel.proofs.truth.Tie as tie
+
+look-up-requires : tie.Need-look-up-requires
+look-up-requires c κs = search needs
+
+enum-known-outcome : tie.Need-enum-known-outcome
+enum-known-outcome c = search needs
+
+enum-known-cell : tie.Need-enum-known-cell
+enum-known-cell c = search needs
+
+told-by-requires : tie.Need-told-by-requires
+told-by-requires c κs = search needs
+
+same-length : tie.Need-same-length
+same-length c = search needs
+
+returns : tie.Need-returns
+returns c = looked-refused (c .before .before .before .before .before .look-up .ensures) (c .before .outcome .given .1)
+
+same-length-2 : tie.Need-same-length-2
+same-length-2 c = search needs
+
+returns-2 : tie.Need-returns-2
+returns-2 c = looked-told (c .before .before .before .before .before .before .look-up .ensures) (c .before .before .cell .given .1) (c .told-by .ensures)
+
+pub truth-spec : {M : Type 1} → statement M
+truth-spec =
+    tie.close
+    (tie.spec
+    look-up-requires
+    enum-known-outcome
+    enum-known-cell
+    told-by-requires
+    same-length
+    returns
+    same-length-2
+    returns-2)
