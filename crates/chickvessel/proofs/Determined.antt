@@ -1,4 +1,4 @@
--- Two results that meet an entry point's contract coincide; check accepts exactly the valid trees, and only true ones.
+-- Two results that meet check's contract coincide; check accepts exactly the valid trees, and only true ones.
 -- Assumes nothing.
 use mathlib.Core.Path.{_≡_, refl, sym, ap, subst, _∙_}
 use mathlib.Core.Bool.{cond}
@@ -37,7 +37,7 @@ claim-is Holds n e = ap (λ k. cond (eqb k 1) Holds Violated) (sym e)
 claim-is Violated n e = ap (λ k. cond (eqb k 1) Holds Violated) (sym e)
 
 module _ {frame : Frame} {f : Formula} {i : ℕ} where
-  root-sign : {v : Verdict} {x : Node} {ws : List Node} → Tree frame (claim f i v) (x ∷ ws) → signOf v ≡ ruleSign (x .rule)
+  pub root-sign : {v : Verdict} {x : Node} {ws : List Node} → Tree frame (claim f i v) (x ∷ ws) → signOf v ≡ ruleSign (x .rule)
   root-sign (grown r fs) = rule-sign r
 
   claimed-tree : (words : List ℕ) (v : Verdict) → Tree frame (claim f i v) (map nodeOf words) → claimedBy (getD words 0 0) ≡ v
