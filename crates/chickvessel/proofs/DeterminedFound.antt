@@ -52,7 +52,7 @@ module _ {frame : Frame} {f : Formula} {i : ℕ} where
   pub not-large : {ws : List Node} → AllLarge frame f i → Least ones frame f i ws → length ws ≤ maxWords → ⊥
   not-large {ws} all l le = omega (arith, all .large (l .verdict) ws (l .valid), le)
 
-  size-one : {r s : Figures} → LeastSize frame f i r → LeastSize frame f i s → r ≡ s
+  pub size-one : {r s : Figures} → LeastSize frame f i r → LeastSize frame f i s → r ≡ s
   size-one (tooLarge a) (tooLarge b) = refl
   size-one (tooLarge a) (least l le) = absurd (not-large a l le)
   size-one (least l le) (tooLarge b) = absurd (not-large b l le)
@@ -74,7 +74,7 @@ module _ {frame : Frame} {f : Formula} {i : ℕ} where
 module _ (prefix loop list : List ℕ) (e i : ℕ) (work : List ℕ) where
   pub find-one : (left left′ : List ℕ) (r s : Figures) → Found prefix loop list e i work left r → Found prefix loop list e i work left′ s
       → (r ≡ s) × (left ≡ left′)
-  find-one left left′ r s a b = worked-alike (λ _. size-one) a b
+  find-one left left′ r s a b = worked-alike size-one a b
 
   -- Asked within the limits, with room to work in: 11 exactly if every valid tree has more than 4,095 nodes.
   pub large-exactly : workRefusal (length prefix) (length loop) list e i (length work) ≡ 0

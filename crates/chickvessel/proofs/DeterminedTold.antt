@@ -37,7 +37,7 @@ module _ {word : ℕ → ℕ} {f : Formula} {i : ℕ} where
 module _ (prefix loop list : List ℕ) (e i : ℕ) (work : List ℕ) where
   pub truth-one : (left left′ : List ℕ) (r s : Figures) → Told prefix loop list e i work left r → Told prefix loop list e i work left′ s
       → (r ≡ s) × (left ≡ left′)
-  truth-one left left′ r s a b = worked-alike (λ _. meaning-one) a b
+  truth-one left left′ r s a b = worked-alike meaning-one a b
 
   -- Asked within the limits, with room to work in, a verdict is told exactly if it is the meaning's over the endless word.
   pub told-true : workRefusal (length prefix) (length loop) list e i (length work) ≡ 0

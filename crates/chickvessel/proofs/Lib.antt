@@ -6,3 +6,4 @@ pub mod Determined
 pub mod Working
 pub mod DeterminedTold
 pub mod DeterminedFound
+pub mod DeterminedWrote

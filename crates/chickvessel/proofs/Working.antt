@@ -8,14 +8,19 @@ use Rattle.schedule.specs.Figures.{Figures}
 use Rattle.chickvessel.specs.Worked.{workRefusal, Worked, refused, answered}
 
 module _ {prefix loop list : List ℕ} {e i : ℕ} {found left : List ℕ} {Answered : Figures → Type 0} {r : Figures} where
+  pub worked-either : {C : Type 0} {left′ : List ℕ} {Answered′ : Figures → Type 0} {s : Figures}
+      → (r ≡ s → left ≡ left′ → C)
+      → (workRefusal (length prefix) (length loop) list e i (length found) ≡ 0 → left ≡ left′ → Answered r → Answered′ s → C)
+      → Worked prefix loop list e i found left Answered r → Worked prefix loop list e i found left′ Answered′ s → C
+  worked-either same both (refused n p l) (refused m q k) = same (p ∙ sym q) (l ∙ sym k)
+  worked-either same both (refused n p l) (answered m k b) = absurd (n m)
+  worked-either same both (answered n l a) (refused m q k) = absurd (m n)
+  worked-either same both (answered n l a) (answered m k b) = both n (l ∙ sym k) a b
+
   -- where the answers agree, the figures do, and the slices too
-  pub worked-alike : {left′ : List ℕ} {Answered′ : Figures → Type 0} {s : Figures}
-      → (workRefusal (length prefix) (length loop) list e i (length found) ≡ 0 → Answered r → Answered′ s → r ≡ s)
+  pub worked-alike : {left′ : List ℕ} {Answered′ : Figures → Type 0} {s : Figures} → (Answered r → Answered′ s → r ≡ s)
       → Worked prefix loop list e i found left Answered r → Worked prefix loop list e i found left′ Answered′ s → (r ≡ s) × (left ≡ left′)
-  worked-alike alike (refused n p l) (refused m q k) = (p ∙ sym q, l ∙ sym k)
-  worked-alike alike (refused n p l) (answered m k b) = absurd (n m)
-  worked-alike alike (answered n l a) (refused m q k) = absurd (m n)
-  worked-alike alike (answered n l a) (answered m k b) = (alike n a b, l ∙ sym k)
+  worked-alike alike = worked-either (λ p l. (p, l)) (λ _ l a b. (alike a b, l))
 
   -- past the refusals, and at number 0, there is an answer
   pub worked-answer : workRefusal (length prefix) (length loop) list e i (length found) ≡ 0 → Worked prefix loop list e i found left Answered r → Answered r
