@@ -10,7 +10,7 @@ use lib.Dec.{eqb}
 use lib.ListN.{length, take, replicate, length-append}
 use lib.Seq.{length-take-le, take-append-seam}
 use Rattle.schedule.specs.Limits.{maxEntries}
-use Rattle.schedule.specs.Figures.{Figures, bare}
+use Rattle.schedule.specs.Figures.{bare}
 use Rattle.schedule.specs.declared.Schedule.{Schedule}
 use Rattle.rules.specs.Tables.{readRefusal, tableOf, noTable, Reads}
 use Rattle.rules.specs.declared.Table.{Table}

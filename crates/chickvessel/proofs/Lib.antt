@@ -2,6 +2,7 @@ pub mod Accepting
 pub mod Limits
 pub mod Judging
 pub mod Looking
+pub mod WritingOut
 pub mod Determined
 pub mod Working
 pub mod DeterminedTold

@@ -1,6 +1,6 @@
 -- What a cell answers: the verdict of the meaning, and the size of the least tree or that there is none small enough.
 -- Assumes nothing.
-use mathlib.Core.Path.{_≡_, refl, sym, ap, subst, _∙_}
+use mathlib.Core.Path.{_≡_, sym, ap, subst, _∙_}
 use mathlib.Core.Bool.{Bool, true, false, cond, false≢true}
 use mathlib.Core.List.{List}
 use Prim.Native.Nat.{ℕ, suc, _+_, _*_, _<_, _≤_}
@@ -36,7 +36,7 @@ use Rattle.chickvessel.specs.Answers.{figures, figuresOf}
 use Rattle.chickvessel.specs.Accepted.{maxPosition, maxWords}
 use Rattle.chickvessel.specs.Worked.{workRefusal, Worked, refused, answered}
 use Rattle.chickvessel.specs.Told.{Meaning, meant, Told}
-use Rattle.chickvessel.specs.Found.{LeastSize, tooLarge, least, Found}
+use Rattle.chickvessel.specs.Found.{AllLarge, LeastSize, tooLarge, least, Found}
 use Rattle.chickvessel.specs.Looked.{verdictIn, sizeIn, toldBy, foundBy, Reads, Looked}
 use Rattle.chickvessel.specs.declared.Outcome.{Outcome}
 use Rattle.chickvessel.specs.declared.Look.{Look}
@@ -86,7 +86,7 @@ module _ {frame : Frame} {f : Formula} {i cell : ℕ} (c : CellFor frame f i cel
   unfolding verdictIn
   cell-means = cond-elim (λ v. Means (frame .letter) (claim f i v)) (holdsIn cell) (λ e. c .truth .0 e) (λ e m. false≢true (sym e ∙ c .truth .1 m))
 
-  cell-size : Size frame (claim f i (verdictIn cell)) (sizeIn cell)
+  pub cell-size : Size frame (claim f i (verdictIn cell)) (sizeIn cell)
   unfolding verdictIn sizeIn
   cell-size = by-verdict (holdsIn cell)
     where
@@ -98,16 +98,18 @@ module _ {frame : Frame} {f : Formula} {i cell : ℕ} (c : CellFor frame f i cel
   unfolding toldBy
   cell-told = meant (verdictIn cell) cell-means
 
-  -- a size above 4,095 is the cut: then every tree is large; else it is the least tree's
+  -- a size above 4,095 is the cut: then every tree is large
+  pub cell-large : Lawful frame → maxWords < sizeIn cell → AllLarge frame f i
+  cell-large law over =
+      let cut-size : sizeIn cell ≡ cutOff = omega (arith, over, cell-size .top) in
+      record { large = λ s vs t. omega (arith, size-large law (subst (Size frame (claim f i (verdictIn cell))) cut-size cell-size) cell-means t) }
+
+  -- else it is the least tree's
   cell-found : Lawful frame → {ws : List Node} → Least ones frame f i ws → LeastSize frame f i (foundBy cell)
   unfolding foundBy
   cell-found law {ws} l =
       cond-elim (LeastSize frame f i) (ltb maxWords (sizeIn cell))
-      (λ over.
-      let cut-size : sizeIn cell ≡ cutOff = omega (arith, ltb-true maxWords (sizeIn cell) over, cell-size .top) in
-      tooLarge (record {
-        large = λ s vs t. omega (arith, size-large law (subst (Size frame (claim f i (verdictIn cell))) cut-size cell-size) cell-means t);
-      }))
+      (λ over. tooLarge (cell-large law (ltb-true maxWords (sizeIn cell) over)))
       (λ within.
       let below : sizeIn cell < cutOff = omega (arith, ltb-false maxWords (sizeIn cell) within) in
       let verdict = size-verdict law cell-size below l in

@@ -6,7 +6,9 @@ use mathlib.Core.List.{List}
 use lib.Dec.{ltb}
 use lib.ListN.{length}
 use Rattle.schedule.specs.Figures.{Figures, bare}
+use Rattle.rules.specs.Formula.{Formula}
 use Rattle.rules.specs.Tables.{formulaOf}
+use Rattle.trees.specs.Rules.{Frame}
 use Rattle.trees.specs.Frames.{scheduleFrame}
 use Rattle.trees.specs.Plans.{signOf}
 use Rattle.trees.specs.declared.Verdict.{Verdict}
@@ -18,6 +20,7 @@ use Rattle.search.specs.Clearing.{cleared}
 use Rattle.chickvessel.specs.Answers.{figures, figuresOf}
 use Rattle.chickvessel.specs.Accepted.{maxWords}
 use Rattle.chickvessel.specs.Worked.{workRefusal}
+use Rattle.chickvessel.specs.Wrote.{Written}
 use Rattle.chickvessel.specs.declared.Look.{Look}
 use Rattle.chickvessel.specs.declared.Look.the-variants.{Refused, Cell}
 
@@ -50,3 +53,8 @@ Looked prefix loop list e i found left (Cell cell) =
     (workRefusal (length prefix) (length loop) list e i (length found) ≡ 0)
     × (left ≡ cleared found)
     × CellFor (scheduleFrame prefix loop) (formulaOf list e) i cell
+
+-- The answer of a question that is past refusal 8, and what it leaves in the tree buffer.
+pub record WritesOut (frame : Frame) (f : Formula) (i : ℕ) (tree left : List ℕ) (r : Figures) : Type 0 where
+  pub answer : Written frame f i tree left r
+  pub kept : (r .number ≡ 0 → ⊥) → left ≡ tree

@@ -7,21 +7,23 @@ use trees::Step;
 use trees::Verdict;
 ghost use mathlib.Core.Path.{_≡_};
 ghost use mathlib.Core.Bool.{true, false};
-ghost use Prim.Native.Nat.{_≤_, _<_};
+ghost use Prim.Native.Nat.{suc, _≤_, _<_};
 ghost use lib.ListN.{length, take};
 ghost use Rattle.rules.specs.Tables.{formulaOf, readRefusal, tableOf};
 ghost use Rattle.rules.specs.Asked.{askRefusal};
 ghost use Rattle.trees.specs.Frames.{scheduleFrame};
 ghost use Rattle.trees.specs.Plans.{signOf};
 ghost use Rattle.trees.specs.Walks.{Within};
-ghost use Rattle.search.specs.Filling.{Limited};
+ghost use Rattle.search.specs.Meant.{CellFor};
+ghost use Rattle.search.specs.Filling.{FilledBelow, Limited};
 ghost use Rattle.chickvessel.specs.Answers.{figures, figuresOf, answerOf};
 ghost use Rattle.chickvessel.specs.Accepted.{maxPosition, maxWords, Hands, orElse, farRefusal, questionRefusal};
 ghost use Rattle.chickvessel.specs.Checked.{Judgement, Checked};
 ghost use Rattle.chickvessel.specs.Worked.{workRefusal};
 ghost use Rattle.chickvessel.specs.Told.{Told};
 ghost use Rattle.chickvessel.specs.Found.{Found};
-ghost use Rattle.chickvessel.specs.Looked.{verdictIn, sizeIn, toldBy, foundBy, Reads, Looked};
+ghost use Rattle.chickvessel.specs.Looked.{verdictIn, sizeIn, toldBy, foundBy, Reads, Looked, WritesOut};
+ghost use Rattle.chickvessel.specs.Wrote.{Wrote};
 
 // The largest position that can be asked, and the most words of a tree.
 const MAX_POSITION: usize = 255;
@@ -327,6 +329,70 @@ pub fn find<'a>(
     }
 }
 
+// The least tree's words at the front of the buffer, or why not, from a filled slice and the cell of the question.
+fn write_out<'a>(
+    prefix: &'a [u32],
+    again: &'a [u32],
+    words: &[u32],
+    work: &[u16],
+    tree: &mut [u32],
+    entry: usize,
+    position: usize,
+    cell: u16,
+) -> Outcome
+    requires { ⌜ Limited (length (now prefix)) (length (now again)) (now words) entry (length (now work)) × (position ≤ maxPosition)
+        × FilledBelow (scheduleFrame (now prefix) (now again)) (now words) (length (now again)) (suc entry) (now work)
+        × CellFor (scheduleFrame (now prefix) (now again)) (formulaOf (now words) entry) position cell ⌝ }
+    ensures { λ r. ⌜ WritesOut (scheduleFrame (now (prefix .entry)) (now (again .entry))) (formulaOf (now (words .entry)) entry) position
+        (now (tree .entry)) (now (tree .exit)) (figuresOf r) ⌝ }
+{
+    let size = size_in(cell);
+    if MAX_WORDS < size as usize {
+        return Outcome::TooLarge;
+    }
+    if tree.len() < size as usize {
+        return Outcome::ShortTree;
+    }
+    writing::write(prefix, again, words, work, tree, entry, position, 0);
+    Outcome::Judged(verdict_in(cell), size)
+}
+
+// The words of the least tree for an entry of a table at a position of a schedule.
+pub fn write<'a>(
+    prefix: &'a [u32],
+    again: &'a [u32],
+    list: &[u32],
+    entry: usize,
+    position: usize,
+    work: &mut [u16],
+    tree: &mut [u32],
+) -> Outcome
+    ensures { λ r. ⌜ Wrote (now (prefix .entry)) (now (again .entry)) (now (list .entry)) entry position (now (work .entry)) (now (work .exit))
+        (now (tree .entry)) (now (tree .exit)) (figuresOf r) ⌝ }
+{
+    let question = accept_work(prefix.len(), again.len(), list, entry, position, work.len());
+    let refusal = question.outcome;
+    if !question.passed {
+        return refusal;
+    }
+    let table = question.table;
+    let words = table.words;
+    let len = table.len;
+    let cell = filled(prefix, again, &words[..len], work, entry, position);
+    let outcome = write_out(
+        prefix,
+        again,
+        &words[..len],
+        work,
+        tree,
+        entry,
+        position,
+        cell,
+    );
+    search::clear(work);
+    outcome
+}
+
 fn of_figures(number: u32, place: u32, verdict: u32, size: u32) -> Answer
     ensures { λ r. ⌜ answerOf r ≡ figures number place verdict size ⌝ }
 {
@@ -408,4 +474,20 @@ pub extern "C" fn chickvessel_find<'a>(
     ensures { λ r. ⌜ Found (now (prefix .entry)) (now (again .entry)) (now (table .entry)) entry position (now (work .entry)) (now (work .exit)) (answerOf r) ⌝ }
 {
     answer_of(find(prefix, again, table, entry, position, work))
+}
+
+#[no_mangle]
+pub extern "C" fn chickvessel_write<'a>(
+    prefix: &'a [u32],
+    again: &'a [u32],
+    table: &[u32],
+    entry: usize,
+    position: usize,
+    work: &mut [u16],
+    tree: &mut [u32],
+) -> Answer
+    ensures { λ r. ⌜ Wrote (now (prefix .entry)) (now (again .entry)) (now (table .entry)) entry position (now (work .entry)) (now (work .exit))
+        (now (tree .entry)) (now (tree .exit)) (answerOf r) ⌝ }
+{
+    answer_of(write(prefix, again, table, entry, position, work, tree))
 }

@@ -5,7 +5,7 @@ use mathlib.Core.List.{List, _++_}
 use Prim.Native.Nat.{ℕ, _+_, _-_, _<_, _≤_}
 use native.Mathlib.Omega.{arith}
 use borrow.Author.Fill.{fill-none, fill-more}
-use lib.ListN.{length, length-set, length-drop, getD, set, drop, replicate}
+use lib.ListN.{length, length-set, length-drop, set, drop, replicate}
 use lib.Seq.{getD-drop, ext-getD}
 use Rattle.trees.specs.Rules.{Frame}
 use Rattle.search.specs.Filling.{Fills}

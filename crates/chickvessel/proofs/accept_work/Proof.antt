@@ -1,6 +1,6 @@
 -- `chickvessel::accept_work` meets its contract: a question that is judged already, 8, or a question that passes.
 -- Assumes nothing.
-use mathlib.Core.Path.{refl, sym, ap}
+use mathlib.Core.Path.{sym, ap}
 use native.Mathlib.Omega.{arith}
 use borrow.Author.Tests.{not-true, not-false}
 use Rattle.schedule.specs.Figures.{bare}

@@ -1,7 +1,6 @@
 -- `search::clear` meets its contract. The loop's invariant: the numbers passed are 0, all else is as found.
 -- Assumes nothing.
 use Prim.Native.Nat.{_-_}
-use native.Mathlib.Omega.{arith}
 use borrow.Author.Needs.{needs}
 use Rattle.search.proofs.Clearing.{Clears, clears-none, clears-turn, clears-done}
 use Rattle.search.proofs.clear.Statement.{statement}
