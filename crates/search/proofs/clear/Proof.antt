@@ -1,6 +1,7 @@
 -- `search::clear` meets its contract. The loop's invariant: the numbers passed are 0, all else is as found.
 -- Assumes nothing.
 use Prim.Native.Nat.{_-_}
+use native.Mathlib.Omega.{arith}
 use borrow.Author.Needs.{needs}
 use Rattle.search.proofs.Clearing.{Clears, clears-none, clears-turn, clears-done}
 use Rattle.search.proofs.clear.Statement.{statement}
@@ -28,7 +29,7 @@ loop-less : tie.Need-loop-less Inv-loop μ-loop
 loop-less c = search needs
 
 loop-again : tie.Need-loop-again Inv-loop μ-loop
-loop-again c = clears-turn (c .before .loop .inv) (c .loop-test .taken) (c .before .before .pre)
+loop-again c = clears-turn (c .before .loop .inv) (omega (arith, c .loop-test .taken)) (c .before .before .pre)
 
 same-length : tie.Need-same-length Inv-loop μ-loop
 same-length c = c .before .loop .inv .same-length
