@@ -23,13 +23,16 @@ use Rattle.theory.proofs.LeastExists.{schedule-least-exists}
 use Rattle.search.specs.Rows.{rowOf}
 use Rattle.search.specs.Meant.{CellFor}
 use Rattle.search.specs.Filling.{FilledBelow, Limited}
+use Rattle.search.specs.Clearing.{cleared}
 use Rattle.search.proofs.Meant.{cell-one}
+use Rattle.search.proofs.Clearing.{fills-cleared}
 use Rattle.writing.specs.Scans
 use Rattle.writing.specs.Writes.{cellSize, Writable, put, Writes}
 use Rattle.chickvessel.specs.Answers.{figures}
 use Rattle.chickvessel.specs.Accepted.{maxPosition, maxWords}
-use Rattle.chickvessel.specs.Wrote.{overwritten, Written, unwritten, tooShort, written}
-use Rattle.chickvessel.specs.Looked.{verdictIn, sizeIn, WritesOut}
+use Rattle.chickvessel.specs.Worked.{workRefusal, answered}
+use Rattle.chickvessel.specs.Wrote.{overwritten, Written, unwritten, tooShort, written, Wrote}
+use Rattle.chickvessel.specs.Looked.{verdictIn, sizeIn, Reads, WritesOut}
 use Rattle.chickvessel.proofs.Looking.{cell-size, cell-large}
 
 cell-sized : (cell : ℕ) → cellSize cell ≡ sizeIn cell
@@ -69,3 +72,14 @@ out-writable {e = e} {i} {cell} {work} lim near filled c within =
     let same = cell-one (filled .rows e i (omega arith) (omega (arith, near))) c in
     let size : cellSize (rowOf work e i) ≡ sizeIn cell = ap cellSize same ∙ cell-sized cell in
     (record { limited = lim; filled = filled; near = omega (arith, near); small = omega (arith, size, within) }, size)
+
+-- the whole call, from the filling over the words that were read and the clearing after it
+pub wrote-out : (prefix loop list table : List ℕ) (e i : ℕ) (found left : List ℕ) {filled : List ℕ} {cell : ℕ} {tree treeLeft : List ℕ} {r : Figures}
+    → workRefusal (length prefix) (length loop) list e i (length found) ≡ 0 → table ≡ list
+    → Reads prefix loop table e i found filled cell → left ≡ cleared filled
+    → WritesOut (scheduleFrame prefix loop) (formulaOf table e) i tree treeLeft r → Wrote prefix loop list e i found left tree treeLeft r
+wrote-out prefix loop list table e i found left {tree = tree} {treeLeft} {r} none same reads clears out = record {
+  answer = answered none (clears ∙ fills-cleared (reads .fills))
+      (subst (λ l. Written (scheduleFrame prefix loop) (formulaOf l e) i tree treeLeft r) same (out .answer));
+  kept = out .kept;
+}
