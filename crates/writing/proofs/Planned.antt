@@ -3,16 +3,18 @@
 use Prim.Native.Nat.{ℕ, zero, suc, _+_, _/_, _<_, _≤_}
 use mathlib.Core.Path.{_≡_, refl, sym, ap, subst, _∙_}
 use mathlib.Core.Bool.{cond}
-use mathlib.Core.List.{List, _∷_}
+use mathlib.Core.List.{List, [], _∷_}
 use native.Mathlib.Nat.{not-suc-le-zero, le-of-suc-le-suc}
 use native.Mathlib.Omega.{arith}
 use borrow.Author.Tests.{eq-eqb, ne-eqb}
 use lib.Dec.{eqb}
-use lib.ListN.{length, getD, length-append}
+use lib.ListN.{length, getD, set, length-append, length-set}
 use Rattle.rules.specs.Formula.{Formula}
 use Rattle.rules.specs.Tables.{formulaOf}
 use Rattle.trees.specs.Nodes.{Node, nodeOf}
 use Rattle.trees.specs.Rules.{Frame, Claim, claim, Rule}
+use Rattle.trees.specs.Rules.{rule1, rule2, rule3, rule4, rule5, rule6, rule7, rule8}
+use Rattle.trees.specs.Rules.{rule9, rule10, rule11, rule12, rule13, rule14, rule15, rule16}
 use Rattle.trees.specs.Frames.{scheduleFrame}
 use Rattle.trees.specs.Least.{ones, Least}
 use Rattle.trees.specs.Table.{ruleSign}
@@ -35,14 +37,33 @@ use Rattle.theory.proofs.LeastForests.{for-least}
 use Rattle.theory.proofs.LeastParts.{repeats-least-below, repeats-least-parts}
 use Rattle.search.specs.Rows.{rowOf}
 use Rattle.search.proofs.Driven.{limited-earlier}
-use Rattle.writing.specs.Writes.{cellSize, Writable, Leads}
+use Rattle.writing.specs.Writes.{cellSize, Writable, Leads, Writes}
 use Rattle.writing.proofs.Leading.{cell-sized, writable-inside}
-use Rattle.writing.proofs.Underway.{Underway, underway-sum, underway-length, underway-next}
+use Rattle.writing.proofs.Underway.{Underway, underway-none, underway-sum, underway-length, underway-next, underway-done}
 
 each-at : {P : Claim → Type 0} {cs : List Claim} → Each P cs → (m : ℕ) (z : Claim) → m < length cs → P (getD cs m z)
 each-at nothing m z lt = absurd (not-suc-le-zero lt)
 each-at (also p ps) zero z lt = p
 each-at (also p ps) (suc m) z lt = each-at ps m z (le-of-suc-le-suc lt)
+
+-- rules 1 and 2 have no parts
+leaf-needs : {frame : Frame} {c : Claim} {x : Node} {needs : List Claim} → Rule frame c x needs → x .rule < 3 → needs ≡ []
+leaf-needs (rule1 h) lt = refl
+leaf-needs (rule2 h) lt = refl
+leaf-needs rule3 lt = absurd (omega arith)
+leaf-needs rule4 lt = absurd (omega arith)
+leaf-needs rule5 lt = absurd (omega arith)
+leaf-needs rule6 lt = absurd (omega arith)
+leaf-needs rule7 lt = absurd (omega arith)
+leaf-needs rule8 lt = absurd (omega arith)
+leaf-needs rule9 lt = absurd (omega arith)
+leaf-needs rule10 lt = absurd (omega arith)
+leaf-needs (rule11 h) lt = absurd (omega arith)
+leaf-needs (rule12 h k) lt = absurd (omega arith)
+leaf-needs (rule13 h) lt = absurd (omega arith)
+leaf-needs rule14 lt = absurd (omega arith)
+leaf-needs (rule15 h) lt = absurd (omega arith)
+leaf-needs (rule16 h) lt = absurd (omega arith)
 
 -- the verdict that a root's word claims is the least tree's
 sign-claims : (s : Verdict) (n : ℕ) → signOf s ≡ n → cond (eqb n 1) Holds Violated ≡ s
@@ -68,6 +89,14 @@ module _ {prefix loop table : List ℕ} {e i : ℕ} {work : List ℕ} (a : Writa
       record { prefix = omega (arith, a .limited .letters); loop = omega (arith, a .limited .letters); entry = n .row; reach = omega (arith, n .row, n .column) }
 
   module _ (w : ℕ) (l : Leads (scheduleFrame prefix loop) (formulaOf table e) i (cellSize (rowOf work e i)) (nodeOf w)) where
+    -- a root without parts is the whole tree
+    pub leaf-writes : (at : ℕ) (found : List ℕ) → at + cellSize (rowOf work e i) ≤ length found → nodeOf w .rule < 3
+        → Writes (scheduleFrame prefix loop) (formulaOf table e) i at found (set found at w) (at + 1)
+    leaf-writes at found room lt =
+        let b = repeats-least-below (schedule-repeats prefix loop (a .limited .loop)) (l .least) in
+        let parts = subst (λ cs. LeastForest ones (scheduleFrame prefix loop) cs (l .below)) (leaf-needs (b .rule) lt) (b .parts) in
+        underway-done (underway-none (at + 1) (set found at w) (omega (arith, room, l .sized, length-set found at w)) parts) (omega arith) at w found refl refl (l .least)
+
     -- so the test of the root does not call it wrong
     pub root-right : ¬ Judges (scheduleFrame prefix loop) table e i (claimedBy w) (nodeOf w) Wrong
     root-right n =

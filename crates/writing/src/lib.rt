@@ -269,11 +269,14 @@ pub fn write<'a>(
         (now (tree .entry)) (now (tree .exit)) r ⌝ }
 {
     let first = lead(prefix, again, words, work, entry, position);
+    tree[at] = first;
+    if first / 16777216 < 3 {
+        return at + 1; // rules 1 and 2: most nodes are these, and have no parts to plan
+    }
     let plan = node(prefix, again, words, entry, position, claimed(first), first);
     let Plan::Go(demands) = plan else {
         return at;
     };
-    tree[at] = first;
     let parts = demands.fixed + demands.count;
     let mut next = at + 1;
     let mut m = 0;

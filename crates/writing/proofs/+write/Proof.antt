@@ -23,7 +23,7 @@ use Rattle.trees.proofs.Claims.{claims-length}
 use Rattle.search.specs.Rows.{rowOf}
 use Rattle.writing.specs.Writes.{cellSize, Writable}
 use Rattle.writing.proofs.Underway.{Underway, underway-none, underway-length, underway-more, underway-done}
-use Rattle.writing.proofs.Planned.{Planned, writable-within, root-right, planned, part-is, part-near, part-writable}
+use Rattle.writing.proofs.Planned.{Planned, writable-within, leaf-writes, root-right, planned, part-is, part-near, part-writable}
 use Rattle.writing.proofs.Leading.{writable-inside}
 use Rattle.writing.proofs.write.Reads as write
 use Rattle.writing.proofs.write.Kinds as write-kinds
@@ -61,7 +61,7 @@ abbrev μ-loop : lts.MeasureT-loop
 
 module _ (t : ℕ) where
   abbrev begun : lts.After-node (claims t) (write-at t) write.Post Inv-loop μ-loop → lts.Start (claims t) (write-at t) write.Post Inv-loop μ-loop
-  begun k = k .before .before .before .before .before .before .before .before
+  begun k = k .before .before .before .before .before .before .before .before .before
 
   abbrev asked : (k : lts.After-node (claims t) (write-at t) write.Post Inv-loop μ-loop)
       → Writable (now (begun k .args .prefix)) (now (begun k .args .again)) (now (begun k .args .words)) (begun k .args .entry) (begun k .args .position) (now (begun k .args .work))
@@ -70,10 +70,10 @@ module _ (t : ℕ) where
   -- what the test of the root says
   judged : (k : lts.After-node (claims t) (write-at t) write.Post Inv-loop μ-loop) (plan : Plan) → k .node .result ≡ plan
       → Judges (scheduleFrame (now (begun k .args .prefix)) (now (begun k .args .again))) (now (begun k .args .words)) (begun k .args .entry) (begun k .args .position)
-      (claimedBy (k .before .before .lead .result)) (nodeOf (k .before .before .lead .result)) plan
+      (claimedBy (k .before .before .before .lead .result)) (nodeOf (k .before .before .before .lead .result)) plan
   judged k plan e =
       let a = begun k .args in
-      let w = k .before .before .lead .result in
+      let w = k .before .before .before .lead .result in
       let frame = scheduleFrame (now (a .prefix)) (now (a .again)) in
       subst (Judges frame (now (a .words)) (a .entry) (a .position) (claimedBy w) (nodeOf w)) e
       (subst (λ s. Judges frame (now (a .words)) (a .entry) (a .position) s (nodeOf w) (k .node .result)) (k .before .claimed .ensures) (k .node .ensures))
@@ -81,11 +81,32 @@ module _ (t : ℕ) where
   lead-requires : lts.Need-lead-requires (claims t) (write-at t) write.Post Inv-loop μ-loop
   lead-requires c κs = c .before .before .before .before .before .pre .1 .0
 
+  -- the root's word has room
+  rooted : (c : lts.After-lead (claims t) (write-at t) write.Post Inv-loop μ-loop) → let a = c .before .before .before .before .before .before .args in a .at < length (now (a .tree))
+  rooted c = omega (arith, c .before .before .before .before .before .before .pre .1 .1, c .lead .ensures .sized)
+
+  mul-tree : lts.Need-mul-tree (claims t) (write-at t) write.Post Inv-loop μ-loop
+  mul-tree c = search needs
+
+  slice-write-tree : lts.Need-slice-write-tree (claims t) (write-at t) write.Post Inv-loop μ-loop
+  slice-write-tree c = rooted c
+
+  add-result : lts.Need-add-result (claims t) (write-at t) write.Post Inv-loop μ-loop
+  add-result c = omega (arith, rooted (c .before), c .before .before .before .before .before .before .before .good .1 .1 .1 .1 .0 .0)
+
+  same-length : lts.Need-same-length (claims t) (write-at t) write.Post Inv-loop μ-loop
+  same-length c = search needs
+
+  returns : lts.Need-returns (claims t) (write-at t) write.Post Inv-loop μ-loop
+  returns c =
+      let a = c .before .before .before .before .before .before .before in
+      leaf-writes (a .pre .1 .0) (c .before .lead .result) (c .before .lead .ensures) (a .args .at) (now (a .args .tree)) (a .pre .1 .1) (c .if1 .taken)
+
   claimed-requires : lts.Need-claimed-requires (claims t) (write-at t) write.Post Inv-loop μ-loop
   claimed-requires c κs = search needs
 
   node-requires : lts.Need-node-requires (claims t) (write-at t) write.Post Inv-loop μ-loop
-  node-requires c κs = writable-within (c .before .before .before .before .before .before .before .pre .1 .0)
+  node-requires c κs = writable-within (c .before .before .before .before .before .before .before .before .pre .1 .0)
 
   enum-known-plan : lts.Need-enum-known-plan (claims t) (write-at t) write.Post Inv-loop μ-loop
   enum-known-plan c = search needs
@@ -93,20 +114,23 @@ module _ (t : ℕ) where
   enum-told : lts.Need-enum-told (claims t) (write-at t) write.Post Inv-loop μ-loop
   enum-told c = search needs
 
-  returns : lts.Need-returns (claims t) (write-at t) write.Post Inv-loop μ-loop
-  returns c =
+  same-length-2 : lts.Need-same-length-2 (claims t) (write-at t) write.Post Inv-loop μ-loop
+  same-length-2 c = search needs
+
+  returns-2 : lts.Need-returns-2 (claims t) (write-at t) write.Post Inv-loop μ-loop
+  returns-2 c =
       let k = c .before .before in
-      absurd (root-right (asked k) (k .before .before .lead .result) (k .before .before .lead .ensures) (judged k Wrong (c .enum-told .given .1)))
+      absurd (root-right (asked k) (k .before .before .before .lead .result) (k .before .before .before .lead .ensures) (judged k Wrong (c .enum-told .given .1)))
 
   abbrev demands : lts.After-plan (claims t) (write-at t) write.Post Inv-loop μ-loop → Demands
   demands p = p .plan .given .0 .0
 
   -- the root once its parts are planned
   abbrev made : (p : lts.After-plan (claims t) (write-at t) write.Post Inv-loop μ-loop) → let a = begun (p .before .before) .args in
-      Planned (now (a .prefix)) (now (a .again)) (now (a .words)) (a .entry) (a .position) (now (a .work)) (p .before .before .before .before .lead .result) (demands p)
+      Planned (now (a .prefix)) (now (a .again)) (now (a .words)) (a .entry) (a .position) (now (a .work)) (p .before .before .before .before .before .lead .result) (demands p)
   made p =
       let k = p .before .before in
-      planned (asked k) (k .before .before .lead .result) (k .before .before .lead .ensures) (judged k (Go (demands p)) (p .plan .given .1))
+      planned (asked k) (k .before .before .before .lead .result) (k .before .before .before .lead .ensures) (judged k (Go (demands p)) (p .plan .given .1))
 
   -- no more parts than a number can count
   few : (p : lts.After-plan (claims t) (write-at t) write.Post Inv-loop μ-loop) → demands p .from + demands p .count < 1000000
@@ -115,12 +139,6 @@ module _ (t : ℕ) where
   there : (p : lts.After-plan (claims t) (write-at t) write.Post Inv-loop μ-loop)
       → begun (p .before .before) .args .at + suc (length (made p .below)) ≤ length (now (begun (p .before .before) .args .tree))
   there p = omega (arith, begun (p .before .before) .pre .1 .1, made p .sized)
-
-  mul-tree : lts.Need-mul-tree (claims t) (write-at t) write.Post Inv-loop μ-loop
-  mul-tree c = search needs
-
-  slice-write-tree : lts.Need-slice-write-tree (claims t) (write-at t) write.Post Inv-loop μ-loop
-  slice-write-tree c = omega (arith, there (c .before))
 
   add-parts : lts.Need-add-parts (claims t) (write-at t) write.Post Inv-loop μ-loop
   add-parts c = omega (arith, few (c .before .before), made (c .before .before) .earlier .one)
@@ -134,7 +152,7 @@ module _ (t : ℕ) where
       let a = begun (p .before .before) .args in (
         record {
           plan = made p;
-          passed = underway-none (a .at + 1) _ (omega (arith, there p, length-set (now (a .tree)) (a .at) (p .before .before .before .before .lead .result))) (made p .parts);
+          passed = underway-none (a .at + 1) _ (omega (arith, there p, length-set (now (a .tree)) (a .at) (p .before .before .before .before .before .lead .result))) (made p .parts);
         },
         search needs,
       )
@@ -190,14 +208,14 @@ module _ (t : ℕ) where
         omega (arith, taken),
       )
 
-  same-length : lts.Need-same-length (claims t) (write-at t) write.Post Inv-loop μ-loop
-  same-length c =
+  same-length-3 : lts.Need-same-length-3 (claims t) (write-at t) write.Post Inv-loop μ-loop
+  same-length-3 c =
       let p = c .before .before .before .before in
       let a = begun (p .before .before) .args in
-      underway-length (c .before .loop .inv .0 .passed) ∙ length-set (now (a .tree)) (a .at) (p .before .before .before .before .lead .result)
+      underway-length (c .before .loop .inv .0 .passed) ∙ length-set (now (a .tree)) (a .at) (p .before .before .before .before .before .lead .result)
 
-  returns-2 : lts.Need-returns-2 (claims t) (write-at t) write.Post Inv-loop μ-loop
-  returns-2 c =
+  returns-3 : lts.Need-returns-3 (claims t) (write-at t) write.Post Inv-loop μ-loop
+  returns-3 c =
       let p = c .before .before .before .before in
       let a = begun (p .before .before) .args in
       let b = c .before .loop .inv .0 in
@@ -207,13 +225,17 @@ pub +write-spec : {M : Type 1} → statement M
 +write-spec =
     close μ-write λ t. lts.spec (claims t) (write-at t) write.Post Inv-loop μ-loop
     (lead-requires t)
+    (mul-tree t)
+    (slice-write-tree t)
+    (add-result t)
+    (same-length t)
+    (returns t)
     (claimed-requires t)
     (node-requires t)
     (enum-known-plan t)
     (enum-told t)
-    (returns t)
-    (mul-tree t)
-    (slice-write-tree t)
+    (same-length-2 t)
+    (returns-2 t)
     (add-parts t)
     (add-next t)
     (loop-holds t)
@@ -222,5 +244,5 @@ pub +write-spec : {M : Type 1} → statement M
     (add-m t)
     (loop-less t)
     (loop-again t)
-    (same-length t)
-    (returns-2 t)
+    (same-length-3 t)
+    (returns-3 t)
