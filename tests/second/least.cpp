@@ -119,4 +119,13 @@ const std::vector<std::uint32_t>& least::tree(std::size_t entry, std::uint64_t p
     return trees[entry][position] = std::move(best);
 }
 
+std::vector<std::uint32_t> least::roots(std::size_t entry, std::uint64_t position) {
+    const std::uint64_t fewest = size(entry, position);
+    std::vector<std::uint32_t> reached;
+    candidates(entry, position, fewest, [&](std::uint32_t root, std::uint64_t size) {
+        if (size == fewest) reached.push_back(root);
+    });
+    return reached;
+}
+
 } // namespace second

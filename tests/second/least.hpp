@@ -20,6 +20,9 @@ public:
     // The words of the least tree; only where the size is within the limit.
     const std::vector<std::uint32_t>& tree(std::size_t entry, std::uint64_t position);
 
+    // The root words of all trees of the least size, rules and counts rising; only where the size is within the limit.
+    std::vector<std::uint32_t> roots(std::size_t entry, std::uint64_t position);
+
 private:
     struct part {
         std::size_t entry;

@@ -4,7 +4,7 @@
 #include "questions.hpp"
 
 #include <algorithm>
-#include <map>
+#include <stdexcept>
 
 namespace second {
 
@@ -286,17 +286,23 @@ std::vector<std::string> shape_names() {
     return names;
 }
 
-void answer_case(test_case& c) {
+void answer_case(test_case& c, engine& e) {
     std::vector<std::uint16_t> work(c.work);
     std::vector<std::uint32_t> tree(c.room);
     switch (c.what) {
-    case call::truth: c.expected = truth(c.prefix, c.loop, c.table, c.entry, c.position, work); break;
-    case call::find: c.expected = find(c.prefix, c.loop, c.table, c.entry, c.position, work); break;
+    case call::truth: c.expected = e.truth(c.entry, c.position, work); break;
+    case call::find: c.expected = e.find(c.entry, c.position, work); break;
     case call::write:
-        c.expected = write(c.prefix, c.loop, c.table, c.entry, c.position, work, tree);
+        c.expected = e.write(c.entry, c.position, work, tree);
         c.written.assign(tree.begin(), tree.begin() + c.expected.size);
         break;
-    case call::check: c.expected = check(c.prefix, c.loop, c.table, c.entry, c.position, c.tree); break;
+    case call::check: c.expected = e.check(c.entry, c.position, c.tree); break;
+    default: throw std::invalid_argument("an engine has no " + name_of(c.what));
+    }
+}
+
+void answer_case(test_case& c) {
+    switch (c.what) {
     case call::view: {
         const words part = view(c.prefix, c.loop, c.position);
         c.of_loop = c.position >= c.prefix.size();
@@ -304,6 +310,10 @@ void answer_case(test_case& c) {
         break;
     }
     case call::explain: c.output = explain({reinterpret_cast<const std::uint8_t*>(c.text.data()), c.text.size()}); break;
+    default: {
+        engine e(c.prefix, c.loop, c.table);
+        answer_case(c, e);
+    }
     }
 }
 
