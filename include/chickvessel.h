@@ -38,7 +38,12 @@
  *             16     until violated   none                            right violated at i to m+v-1      n = m + v - i
  *           where m is the larger of i and u + v * (past height of right). Every part is a tree of its own for its entry, position and
  *           verdict. Positions are exact: they may pass 255 and never wrap, so what a word cannot carry (an atom's position above
- *           65535) is no tree. */
+ *           65535) is no tree.
+ *
+ * LEAST     An entry has exactly one verdict at a position, and trees for that verdict alone. The least of them is the one with the fewest
+ *           words; of several with as few, the one with the smaller word at the first place where they differ. So the smaller rule and
+ *           then the smaller count is taken at the root, whatever stands below it, and then in each part in turn. There is exactly one
+ *           least tree; its size is the number of its words. */
 #ifndef CHICKVESSEL_H
 #define CHICKVESSEL_H
 
@@ -57,8 +62,11 @@ extern "C" {
  *    5  some entry's past height and future height add up to more than 5
  *    6  the asked entry is not in the table
  *    7  the asked position is above 255
+ *    8  the work slice is shorter than 16384
  *    9  the words are no valid tree
- *   10  more than 4095 words */
+ *   10  more than 4095 words
+ *   11  the least tree has more than 4095 words
+ *   12  the tree buffer is shorter than the least tree */
 typedef struct {
     uint32_t number;  /* 0, or the refusal */
     uint32_t place;   /* of refusal 9; else 0 */
@@ -66,11 +74,54 @@ typedef struct {
     uint32_t size;    /* in words, from calls that find one; else 0 */
 } chickvessel_answer;
 
-/* chickvessel_check: whether the words of tree are a valid tree for an entry at a position, and which verdict it proves.
- * Read:    prefix and loop, the letters; table, the entries; tree, the words: each list as far as its length (in elements, not bytes) and
- *          never written. A null pointer with length 0 is an empty list. Lists may overlap. entry is the index of the asked entry, position
- *          the asked position. Both are judged as the whole size_t: 4294967296 is refused, not taken for 0.
- * Refused: by the first that applies, in the order 1 2 3 4 5 6 7 10 9. Refusals 4 and 5 look at every entry, asked or not.
+/* EVERY CALL
+ * Read:    prefix and loop, the letters; table, the entries: each list as far as its length (in elements, not bytes) and never written. A
+ *          null pointer with length 0 is an empty list, or an empty buffer. Lists may overlap. entry is the index of the asked entry,
+ *          position the asked position. Both are judged as the whole size_t: 4294967296 is refused, not taken for 0.
+ * Refused: in the order that the call names. Refusals 4 and 5 look at every entry, asked or not.
+ * Heights: are worked out by following an entry's parts down: for every entry once, in truth, find and write for each entry up to the asked
+ *          one again, and in check and write for each node of rule 16 once more. On a table of 32 entries and(k - 1, k - 2) that is
+ *          millions of steps each time; on most tables next to nothing.
+ * Keeps no pointer, allocates nothing, has no state, calls nothing but memcpy and memset: calls may run at once, on the same lists too, if
+ *          each is lent buffers of its own. Fits in 16 KiB of stack.
+ *
+ * TRUTH, FIND AND WRITE are lent buffers.
+ * Lent:    work, a slice of at least 16384 numbers, whatever they hold: no answer depends on it. For write also tree, room for the words;
+ *          4095 are always enough. The work slice and the tree buffer must not overlap each other, nor a list that is read; nothing is
+ *          promised if they do. Each is given with its true length; numbers past it are neither read nor written.
+ *                     number  place  verdict               size    work, first 16384   work, the rest   tree
+ *          success    0       0      1 holds, 2 violated   below   0                   as found         the words, the rest as found
+ *          1 to 8     itself  0      0                     0       as found            as found         as found
+ *          11, 12     itself  0      0                     0       0                   as found         as found
+ * Time:    the work slice is filled once, a bounded number of steps for each of at most 496 positions of each entry up to the asked one, and
+ *          cleared; so all three take about as long, whichever position is asked. write then takes time by the words of the tree. */
+
+/* chickvessel_truth: the verdict of an entry at a position.
+ * Refused: 1 2 3 4 5 6 7 8, in this order; never 11, for the verdict is there however large the least tree is.
+ * Size:    0. */
+chickvessel_answer chickvessel_truth(const uint32_t *prefix, size_t prefix_len, const uint32_t *loop, size_t loop_len,
+                                     const uint32_t *table, size_t table_len, size_t entry, size_t position,
+                                     uint16_t *work, size_t work_len);
+
+/* chickvessel_find: the verdict of an entry at a position, and the size of the least tree that proves it.
+ * Refused: 1 2 3 4 5 6 7 8 11, in this order. 11 gives no verdict; truth does.
+ * Size:    of the least tree, 1 to 4095. */
+chickvessel_answer chickvessel_find(const uint32_t *prefix, size_t prefix_len, const uint32_t *loop, size_t loop_len,
+                                    const uint32_t *table, size_t table_len, size_t entry, size_t position,
+                                    uint16_t *work, size_t work_len);
+
+/* chickvessel_write: the verdict of an entry at a position, and the least tree that proves it.
+ * Refused: 1 2 3 4 5 6 7 8 11 12, in this order. 11 and 12 give neither verdict nor size and write no word, not even the first; find gives
+ *          the size that the tree buffer must have.
+ * Size:    of the least tree, 1 to 4095: exactly so many words stand at the front of the tree buffer, and those past them are as found.
+ *          chickvessel_check accepts them, for the same question, with the same verdict. */
+chickvessel_answer chickvessel_write(const uint32_t *prefix, size_t prefix_len, const uint32_t *loop, size_t loop_len,
+                                     const uint32_t *table, size_t table_len, size_t entry, size_t position,
+                                     uint16_t *work, size_t work_len, uint32_t *tree, size_t tree_len);
+
+/* chickvessel_check: whether the words of tree are a valid tree for an entry at a position, and which verdict it proves. tree is a list that
+ * is read, like the others; no buffer is lent.
+ * Refused: 1 2 3 4 5 6 7 10 9, in this order.
  *                     number  place  verdict               size
  *          valid      0       0      1 holds, 2 violated   0
  *          1 to 7     itself  0      0                     0
@@ -82,10 +133,7 @@ typedef struct {
  *          allowed shows where the words run out. An empty tree has place 0.
  * Verdict: the root's rule claims it. It is the true one: no valid tree proves a verdict that the entry does not have at the position.
  * Size:    0, also for a valid tree; its size is tree_len.
- * Time:    by the words of the tree. Heights are worked out by following an entry's parts down, for every entry once and for each node of
- *          rule 16 once more, which on a table of 32 entries and(k - 1, k - 2) is millions of steps each time.
- * Keeps no pointer, allocates nothing, has no state, calls nothing but memcpy and memset: calls may run at once, on the same lists too.
- *          Fits in 16 KiB of stack. */
+ * Time:    by the words of the tree. */
 chickvessel_answer chickvessel_check(const uint32_t *prefix, size_t prefix_len, const uint32_t *loop, size_t loop_len,
                                      const uint32_t *table, size_t table_len, size_t entry, size_t position,
                                      const uint32_t *tree, size_t tree_len);

@@ -12,7 +12,7 @@ std::string case_files(const std::filesystem::path& folder) {
     for (const auto& file : files)
         for (const second::test_case& c : second::read_cases(file)) {
             if (!offers(c.what)) continue;
-            hold(c, 0xabcd);
+            for (std::uint32_t junk : {0u, 0xabcdu, 0xffffffffu}) hold(c, junk);
             t.met("lines");
             t.met(name_of(c.what));
             t.met_refusal(c.expected.number);

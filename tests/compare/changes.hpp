@@ -1,4 +1,4 @@
-// The changes that are made to a check call, one at a time: to its tree, to what is asked, and to the lists.
+// The changes that are made to a call, one at a time: to what is asked, to the lists, and to the tree that a check call has.
 #pragma once
 
 #include "cases.hpp"
@@ -12,6 +12,10 @@ struct change {
     bool (*make)(second::test_case& c, second::random_source& r);
 };
 
-extern const std::vector<change> CHANGES;
+// Those to what is asked and to the lists.
+std::vector<change> question_changes();
+
+// None at all, these, and those to the tree.
+std::vector<change> check_changes();
 
 } // namespace compare

@@ -1,8 +1,8 @@
 // Random check calls: each one drawn, then changed in every way, against the reference's answers.
 #include "comparison.hpp"
 
+#include "call_shapes.hpp"
 #include "changes.hpp"
-#include "check_shapes.hpp"
 #include "hold.hpp"
 #include "shapes.hpp"
 #include "tally.hpp"
@@ -31,13 +31,13 @@ std::string break_class(const test_case& c) {
     return ended ? "word left over" : "wrong part";
 }
 
-tally everything_to_meet() {
+tally everything_to_meet(const std::vector<change>& changes) {
     std::vector<std::string> must = {
         "calls", "prefix null", "loop null", "table null", "tree null", "entry the largest", "position the largest",
         "accepted", "accepted of 1 to 9 words", "accepted of 10 to 99", "accepted of 100 to 999", "accepted of 1000 to 4094", "accepted of 4095",
         "wrong root", "wrong part", "missing word", "word left over",
     };
-    for (const change& made : CHANGES) must.push_back(made.name);
+    for (const change& made : changes) must.push_back(made.name);
     return tally("check", must, {1, 2, 3, 4, 5, 6, 7, 9, 10}, {1, 2, 3, 4, 5, 6, 7, 8, 9, 10, 11, 12, 13, 14, 15, 16});
 }
 
@@ -57,13 +57,14 @@ void count(const test_case& c, tally& t) {
 } // namespace
 
 std::string check_calls(random_source r) {
-    tally t = everything_to_meet();
+    const std::vector<change> changes = check_changes();
+    tally t = everything_to_meet(changes);
     std::uint64_t calls = 0;
-    for (const check_shape& shape : check_shapes())
+    for (const call_shape& shape : check_shapes())
         for (std::size_t k = 0; k < shape.draws; ++k) {
             random_source own(r.next()); // a source a draw: none depends on those before it
             const test_case drawn = shape.draw(own);
-            for (const change& made : CHANGES) {
+            for (const change& made : changes) {
                 test_case c = drawn;
                 if (!made.make(c, own)) continue;
                 c.where = "check of shape " + shape.name + ", " + made.name;

@@ -1,5 +1,5 @@
 // Questions of all shapes, with a valid tree where there can be one.
-#include "check_shapes.hpp"
+#include "call_shapes.hpp"
 
 #include "questions.hpp"
 #include "shapes.hpp"
@@ -10,17 +10,11 @@ namespace {
 
 using namespace second;
 
-constexpr std::size_t DRAWS = 320;
-
-// On a chain of and(k - 1, k - 2) the heights alone take a call up to a tenth of a second.
-constexpr std::size_t DRAWS_OF_AND_CHAINS = 8;
-
-bool asks_something(const std::string& shape) { return shape != "view" && shape != "text" && shape != "damaged-text"; }
+constexpr std::size_t DRAWS = 320, DRAWS_OF_AND_CHAINS = 8;
 
 bool refused_with_any_tree(const test_case& c) { return check(c.prefix, c.loop, c.table, c.entry, c.position, {}).number != 9; }
 
-test_case of_shape(const std::string& shape, random_source& r) {
-    test_case c = case_of_shape(shape, r);
+test_case with_tree(test_case c, random_source& r) {
     if (c.what == call::check) return c;
     c.what = call::check, c.work = c.room = 0, c.written.clear();
     if (refused_with_any_tree(c)) c.tree.resize(r.pick({0, 1, 4095, 4096}));
@@ -43,11 +37,10 @@ test_case far_witness(random_source& r) {
 
 } // namespace
 
-std::vector<check_shape> check_shapes() {
-    std::vector<check_shape> shapes = {{"far-witness", DRAWS, far_witness}};
-    for (const std::string& name : shape_names())
-        if (asks_something(name))
-            shapes.push_back({name, name == "and-chain" ? DRAWS_OF_AND_CHAINS : DRAWS, [name](random_source& r) { return of_shape(name, r); }});
+std::vector<call_shape> check_shapes() {
+    std::vector<call_shape> shapes = {{"far-witness", DRAWS, far_witness}};
+    for (const call_shape& asks : shapes_that_ask(DRAWS, DRAWS_OF_AND_CHAINS))
+        shapes.push_back({asks.name, asks.draws, [asks](random_source& r) { return with_tree(asks.draw(r), r); }});
     return shapes;
 }
 

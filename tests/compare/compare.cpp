@@ -12,6 +12,7 @@ int main(int argc, char** argv) try {
     const std::uint64_t seed = argc == 3 ? std::stoull(argv[2]) : 1;
     std::cout << "seed " << seed << std::endl;
     std::cout << case_files(argv[1]) << std::endl;
+    std::cout << lent_calls(second::random_source(seed + 1)) << std::endl;
     std::cout << check_calls(second::random_source(seed)) << std::endl;
     std::cout << "comparison: no difference\n";
 } catch (const std::exception& e) {

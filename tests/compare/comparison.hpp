@@ -11,6 +11,9 @@ namespace compare {
 // The lines of all case files in a folder, as far as the library has their call.
 std::string case_files(const std::filesystem::path& folder);
 
+// Random calls of truth, find and write.
+std::string lent_calls(second::random_source r);
+
 // Random calls of check.
 std::string check_calls(second::random_source r);
 

@@ -10,7 +10,7 @@ namespace {
 
 second::program whole_library() {
     second::program p;
-    p.check = library::check;
+    p.truth = library::truth, p.find = library::find, p.write = library::write, p.check = library::check;
     return p;
 }
 
