@@ -1,4 +1,4 @@
-// Check calls that go deep: long chains of entries, operators of time anywhere in them, large trees.
+// Calls that go deep: long chains of entries, operators of time anywhere in them, large trees.
 #pragma once
 
 #include "cases.hpp"
@@ -7,9 +7,14 @@ namespace stack {
 
 struct group {
     std::string name;
-    std::vector<second::test_case> calls; // each with the reference's answer
+    std::vector<second::test_case> calls;
 };
 
-std::vector<group> deep_calls();
+// Questions on chains of 32 entries, as write calls with buffers that are long enough; not answered yet.
+std::vector<group> deep_questions();
+
+// Calls of check, and of truth, find or write, each with the reference's answer.
+std::vector<group> deep_checks();
+std::vector<group> deep_lent_calls(second::call what);
 
 } // namespace stack
