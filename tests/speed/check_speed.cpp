@@ -1,5 +1,6 @@
-// speed: how the time of a check grows with the words of the tree, and what nodes of rule 16 cost on a table with many ways down. Nothing here
-// passes or fails by the clock.
+// How the time of a check grows with the words of the tree, and what nodes of rule 16 cost on a table with many ways down.
+#include "speed.hpp"
+
 #include "far_witness.hpp"
 #include "stopwatch.hpp"
 
@@ -10,9 +11,10 @@
 #include <iostream>
 #include <stdexcept>
 
+namespace speed {
+
 namespace {
 
-using namespace speed;
 using second::test_case;
 
 double library_seconds(const test_case& c) {
@@ -81,12 +83,10 @@ void print_branching() {
 
 } // namespace
 
-int main() try {
-    std::cout << std::fixed << std::setprecision(3) << "check, by the words of the tree\n";
+void report_check() {
+    std::cout << "check, by the words of the tree\n";
     for (const ordinary& table : TABLES) print_growth(table);
     print_branching();
-} catch (const std::exception& e) {
-    std::cout.flush();
-    std::cerr << "speed: FAILED\n" << e.what() << "\n";
-    return 1;
 }
+
+} // namespace speed
