@@ -46,13 +46,16 @@ void print_row(const std::string& name, std::size_t depth, const std::string& of
     std::cout << "    " << std::left << std::setw(48) << name << std::right << std::setw(6) << depth << of << "\n";
 }
 
+// The tree that a call reads or writes, if any.
+const std::vector<std::uint32_t>& tree_of(const second::test_case& c) { return c.what == call::check ? c.tree : c.written; }
+
 // The depth of the deepest call of a group; prints a row for it.
 std::size_t depth_of_group(painted_stack& on, const group& g) {
     std::size_t deepest = 0, answered = 0, longest = 0, nodes = 0;
     for (const second::test_case& c : g.calls) {
         deepest = std::max(deepest, depth_of_call(on, c));
         answered += c.expected.number == 0;
-        const std::vector<std::uint32_t>& tree = c.what == call::check ? c.tree : c.written;
+        const std::vector<std::uint32_t>& tree = tree_of(c);
         longest = std::max(longest, tree.size());
         nodes += std::size_t(std::ranges::count_if(tree, [](std::uint32_t word) { return second::node_of(word).rule == 16; }));
     }
@@ -71,6 +74,14 @@ std::size_t depth_of_all(painted_stack& on, const std::string& name, const std::
     return deepest;
 }
 
+// A measure without the largest tree would be no measure.
+void insist_on_the_largest_tree(const std::vector<group>& groups) {
+    for (const group& g : groups)
+        for (const second::test_case& c : g.calls)
+            if (c.expected.number == 0 && tree_of(c).size() == second::MAX_TREE && c.table.size() == second::MAX_ENTRIES) return;
+    throw std::runtime_error("no tree of " + std::to_string(second::MAX_TREE) + " words over " + std::to_string(second::MAX_ENTRIES) + " entries");
+}
+
 } // namespace
 
 int main() try {
@@ -79,6 +90,7 @@ int main() try {
     print_row("an empty function", on.depth_of([] {}), "");
     std::string too_deep;
     const auto measure = [&](call what, const std::vector<group>& groups) {
+        if (what == call::write || what == call::check) insist_on_the_largest_tree(groups);
         if (depth_of_all(on, name_of(what), groups) > FIBRE) too_deep += " " + name_of(what);
     };
     for (call what : {call::truth, call::find, call::write}) measure(what, deep_lent_calls(what));
