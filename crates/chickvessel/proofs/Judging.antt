@@ -1,12 +1,12 @@
 -- What a walk from the root says of the words: a valid tree, or where they break off.
 -- Assumes nothing.
-use mathlib.Core.Path.{_≡_, refl, sym, ap, subst, _∙_}
-use mathlib.Core.List.{List, [], _∷_, _++_, map}
+use mathlib.Core.Path.{_≡_, sym, subst, _∙_}
+use mathlib.Core.List.{List, [], _∷_, map}
 use Prim.Native.Nat.{ℕ, _+_, _-_, _<_, _≤_}
 use native.Mathlib.Nat.{sub-zero, add-zero}
 use native.Mathlib.Omega.{arith}
-use lib.ListN.{length, getD, take, drop, length-map, take-append-drop}
-use lib.Seq.{slice, take-all, drop-cons, length-take-le}
+use lib.ListN.{length, getD, take, length-map, take-append-drop}
+use lib.Seq.{take-all, drop-cons, length-take-le}
 use Rattle.rules.specs.Formula.{Formula}
 use Rattle.trees.specs.Nodes.{Node, nodeOf}
 use Rattle.trees.specs.Rules.{Frame, claim}

@@ -10,7 +10,7 @@ use Rattle.schedule.specs.Figures.{Figures, bare}
 use Rattle.rules.specs.Formula.{Formula}
 use Rattle.rules.specs.Tables.{formulaOf}
 use Rattle.trees.specs.Nodes.{Node, nodeOf}
-use Rattle.trees.specs.Rules.{Frame, claim}
+use Rattle.trees.specs.Rules.{Frame}
 use Rattle.trees.specs.Frames.{scheduleFrame}
 use Rattle.trees.specs.Least.{ones, Least}
 use Rattle.trees.specs.Plans.{signOf}
@@ -18,8 +18,6 @@ use Rattle.trees.specs.declared.Verdict.{Verdict}
 use Rattle.theory.specs.Costs.{cutOff}
 use Rattle.theory.specs.Frames.{Lawful}
 use Rattle.theory.proofs.Sizes.{size-verdict, size-least}
-use Rattle.theory.proofs.Sound.{schedule-lawful}
-use Rattle.theory.proofs.LeastExists.{schedule-least-exists}
 use Rattle.search.specs.Rows.{rowOf}
 use Rattle.search.specs.Meant.{CellFor}
 use Rattle.search.specs.Filling.{FilledBelow, Limited}

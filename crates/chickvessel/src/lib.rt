@@ -347,7 +347,7 @@ fn write_out<'a>(
         (now (tree .entry)) (now (tree .exit)) (figuresOf r) ⌝ }
 {
     let size = size_in(cell);
-    if MAX_WORDS < size as usize {
+    if size as usize > MAX_WORDS {
         return Outcome::TooLarge;
     }
     if tree.len() < size as usize {

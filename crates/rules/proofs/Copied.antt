@@ -1,13 +1,13 @@
 -- The record's words as a copy of the list: how a turn of the loop adds one, and what the whole copy is.
 -- Assumes nothing.
-use mathlib.Core.Path.{_≡_, refl, sym, ap, subst, _∙_}
-use mathlib.Core.List.{List, [], _∷_, _++_}
+use mathlib.Core.Path.{_≡_, sym, ap, _∙_}
+use mathlib.Core.List.{List, _++_}
 use Prim.Native.Nat.{ℕ, zero, suc, _+_, _-_, _<_, _≤_}
 use native.Mathlib.Nat.{zero-add, sub-zero, zero-sub, suc-sub-suc}
 use native.Mathlib.Numerals.{add-one}
 use native.Mathlib.Omega.{arith}
-use lib.ListN.{length, getD, take, drop, set, replicate, length-replicate}
-use lib.Seq.{paste, paste-zero, paste-suc, length-paste, take-all, drop-nil}
+use lib.ListN.{length, getD, drop, set, replicate, length-replicate}
+use lib.Seq.{paste, paste-zero, paste-suc, take-all}
 use Rattle.schedule.specs.Limits.{maxEntries}
 
 abbrev blank : List ℕ
@@ -26,9 +26,6 @@ module _ (list : List ℕ) (few : length list ≤ maxEntries) where
       ap (λ k. set (copied list e) k (getD list e 0)) (sym (zero-add e))
       ∙ paste-suc blank 0 list e 0 (rw (zero-add, length-replicate) (omega arith)) lt
       ∙ ap (copied list) (sym (add-one e))
-
-  pub copied-length : (e : ℕ) → e ≤ length list → length (copied list e) ≡ maxEntries
-  copied-length e le = length-paste blank 0 list e (rw (zero-add, length-replicate) (omega arith)) le ∙ length-replicate {A = ℕ} maxEntries 0
 
 drop-replicate : (k n : ℕ) → drop {A = ℕ} k (replicate n 0) ≡ replicate (n - k) 0
 drop-replicate zero n = ap (λ m. replicate m 0) (sym (sub-zero n))

@@ -4,7 +4,7 @@ use mathlib.Core.Path.{_≡_, refl, ap}
 use mathlib.Core.List.{List}
 use Prim.Native.Nat.{ℕ}
 use native.Mathlib.Omega.{arith}
-use Rattle.schedule.specs.Figures.{Figures, bare}
+use Rattle.schedule.specs.Figures.{bare}
 use Rattle.schedule.proofs.Determined.{equal-one}
 use Rattle.rules.specs.Formula.{height}
 use Rattle.rules.specs.Entries.{entryOf}

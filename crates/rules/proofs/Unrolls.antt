@@ -1,12 +1,11 @@
 -- The formula of an entry is built from the formulas of its parts: one law, which every other proof uses in place of the definition.
 -- Assumes nothing.
-use mathlib.Core.Path.{_≡_, refl, sym, ap, ap₂, _∙_}
+use mathlib.Core.Path.{_≡_, refl, ap, ap₂}
 use mathlib.Core.List.{List}
-use Prim.Native.Nat.{ℕ, zero, suc, _<_, _≤_}
+use Prim.Native.Nat.{ℕ, zero, suc, _<_}
 use native.Mathlib.Nat.{not-suc-le-zero, le-of-suc-le-suc, lt-of-lt-of-le, le-refl}
 use lib.ListN.{getD}
-use Rattle.rules.specs.Formula.{Formula, atom, notᶠ, orᶠ, andᶠ, since, until}
-use Rattle.rules.specs.Entries.{entryOf}
+use Rattle.rules.specs.Formula.{Formula, notᶠ, orᶠ, andᶠ, since, until}
 use Rattle.rules.specs.Tables.{entryAt, build, unrolled, formulaOf}
 use Rattle.rules.specs.declared.Entry.{Entry}
 use Rattle.rules.specs.declared.Entry.the-variants.{Atom, Not, Or, And, Since, Until, Broken}

@@ -1,5 +1,4 @@
 -- How a height goes down an entry's parts: nowhere at an atom, else through two parts, with what the entry adds.
-use Prim.Native.Nat.{ℕ}
 use Rattle.rules.specs.Formula.{sinceAdds, untilAdds}
 use Rattle.rules.specs.declared.Side.{Side}
 use Rattle.rules.specs.declared.Entry.{Entry}

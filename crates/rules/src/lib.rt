@@ -1,7 +1,6 @@
 // Rule tables: what an entry says, the record that a list is read into, the heights, and refusals 3 to 6.
 use schedule::Schedule;
 ghost use mathlib.Core.Path.{_≡_};
-ghost use mathlib.Core.List.{List};
 ghost use Prim.Native.Nat.{_≤_, _<_, max};
 ghost use lib.ListN.{length};
 ghost use Rattle.schedule.specs.Limits.{maxEntries};

@@ -1,13 +1,13 @@
 -- From numbers to formulas: if the cells of the parts say what they mean, so do the cells that the recurrences make of them.
 -- Assumes nothing.
-use Prim.Native.Nat.{ℕ, zero, suc, _+_, _-_, _<_, _≤_, min, max}
+use Prim.Native.Nat.{ℕ, zero, suc, _+_, _-_, _<_, _≤_, min}
 use mathlib.Core.Path.{_≡_, refl, sym, _∙_, ap, subst}
-use mathlib.Core.Logic.{_↔_, _⊎_, inl, inr, ⊎-elim}
+use mathlib.Core.Logic.{_↔_, _⊎_, inl, ⊎-elim}
 use mathlib.Core.Bool.{Bool, true, false, cond, false≢true}
 use native.Mathlib.Omega.{arith}
 use borrow.Author.Tests.{lt-ltb, le-ltb, ltb-true, ltb-false}
 use Rattle.rules.specs.Formula.{Formula, since, until, height}
-use Rattle.rules.specs.Meaning.{Holds as Meant, Since, Until}
+use Rattle.rules.specs.Meaning.{Holds as Meant, Since}
 use Rattle.rules.proofs.Neighbours.{since-first, since-unrolled, until-unrolled}
 use Rattle.rules.specs.declared.Side.the-variants.{Past}
 use Rattle.trees.specs.Rules.{Frame, claim, run}

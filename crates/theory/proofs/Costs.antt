@@ -1,19 +1,19 @@
 -- What forests cost: as much as their parts together, and a tree as much as its root and the forest below it.
 -- Assumes nothing.
-use Prim.Native.Nat.{ℕ, zero, suc, _+_}
+use Prim.Native.Nat.{ℕ, suc, _+_}
 use mathlib.Core.Path.{_≡_, refl, sym, _∙_, ap, subst}
 use mathlib.Core.List.{List, [], _∷_, _++_, append-assoc}
 use native.Mathlib.Omega.{arith}
 use Rattle.rules.specs.Formula.{Formula}
 use Rattle.trees.specs.Nodes.{Node}
 use Rattle.trees.specs.Rules.{Frame, Claim, claim, run, Rule}
-use Rattle.trees.specs.Trees.{Tree, grown, Forest, none, more}
+use Rattle.trees.specs.Trees.{grown, Forest, none, more}
 use Rattle.trees.specs.Least.{Cost, costOf}
 use Rattle.trees.specs.declared.Verdict.{Verdict}
 use Rattle.trees.proofs.Order.{cost-append}
 use Rattle.trees.proofs.Forests.{forest-append, forest-parts, tree-alone, alone-tree, run-snoc}
 use Rattle.theory.specs.Costs.{TreeCosts, ForestCosts, CutLeast, Sum, Raised, cut}
-use Rattle.theory.proofs.Cuts.{cut-same, cut-sum, cut-raised}
+use Rattle.theory.proofs.Cuts.{cut-same, cut-sum}
 
 run-longer : (cs : List Claim) (f : Formula) (from n j : ℕ) (s : Verdict) → from + n ≡ j
     → (cs ++ run f from n s) ++ claim f j s ∷ [] ≡ cs ++ run f from (suc n) s

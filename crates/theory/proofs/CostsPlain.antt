@@ -13,8 +13,8 @@ use Rattle.trees.specs.Rules.{rule1, rule2, rule3, rule4, rule5, rule6, rule7, 
 use Rattle.trees.specs.Trees.{Tree, grown}
 use Rattle.trees.specs.Least.{Cost, costOf}
 use Rattle.trees.specs.declared.Verdict.the-variants.{Holds, Violated}
-use Rattle.theory.specs.Costs.{TreeCosts, ForestCosts, CutLeast, Raised, cutOff, cut}
-use Rattle.theory.proofs.Cuts.{cut-same, cut-none, cut-or, cut-raised, cut-again}
+use Rattle.theory.specs.Costs.{TreeCosts, ForestCosts, CutLeast, Raised, cut}
+use Rattle.theory.proofs.Cuts.{cut-same, cut-or, cut-raised, cut-again}
 use Rattle.theory.proofs.Costs.{costs-none, cut-alone, cut-more, costs-grown, costs-root}
 
 -- What a root costs with a forest of the claims below it.
@@ -50,13 +50,6 @@ module _ {cost : Cost} {frame : Frame} {c : Claim} where
 
 -- Atoms
 
-module _ {frame : Frame} {a i : ℕ} where
-  has-atom : {ws : List Node} → Tree frame (claim (atom a) i Holds) ws → HasAtom (frame .letter i) a
-  has-atom (grown (rule1 h) fs) = h
-
-  lacks-atom : {ws : List Node} → Tree frame (claim (atom a) i Violated) ws → ¬ HasAtom (frame .letter i) a
-  lacks-atom (grown (rule2 h) fs) = h
-
 module _ {cost : Cost} {frame : Frame} {a i : ℕ} where
   holds-atom : EachRoot cost frame (claim (atom a) i Holds) (RootCosts cost frame (node 1 a i) [])
   holds-atom y ms (rule1 h) n t = t
@@ -69,12 +62,6 @@ module _ {cost : Cost} {frame : Frame} {a i : ℕ} where
 
   pub atom-violated-cost : ¬ HasAtom (frame .letter i) a → CutLeast (TreeCosts cost frame (claim (atom a) i Violated)) (cut (cost .weigh 2 a))
   atom-violated-cost h = subst (CutLeast (TreeCosts cost frame (claim (atom a) i Violated))) (omega arith) (cut-root (rule2 h) violated-atom costs-none)
-
-  pub atom-holds-none : ¬ HasAtom (frame .letter i) a → CutLeast (TreeCosts cost frame (claim (atom a) i Holds)) cutOff
-  atom-holds-none lacks = cut-none (λ n t. lacks (has-atom (t .tree)))
-
-  pub atom-violated-none : HasAtom (frame .letter i) a → CutLeast (TreeCosts cost frame (claim (atom a) i Violated)) cutOff
-  atom-violated-none h = cut-none (λ n t. lacks-atom (t .tree) h)
 
 -- Not
 

@@ -1,13 +1,13 @@
 -- What the trees of a since cost at a position, from what they cost one position before.
 -- Assumes nothing.
-use Prim.Native.Nat.{ℕ, zero, suc, _+_, _-_, _≤_, min}
-use mathlib.Core.Path.{_≡_, refl, sym, subst}
+use Prim.Native.Nat.{ℕ, zero, suc, _+_, _-_, min}
+use mathlib.Core.Path.{_≡_, subst}
 use mathlib.Core.Logic.{_⊎_, inl, inr}
 use mathlib.Core.List.{List, [], _∷_}
 use native.Mathlib.Omega.{arith}
 use Rattle.rules.specs.Formula.{Formula, since}
 use Rattle.trees.specs.Nodes.{Node, node}
-use Rattle.trees.specs.Rules.{Frame, claim, run, Rule, rule11, rule12, rule13}
+use Rattle.trees.specs.Rules.{Frame, claim, run, rule11, rule12, rule13}
 use Rattle.trees.specs.Trees.{Tree, grown}
 use Rattle.trees.specs.Least.{Cost, costOf}
 use Rattle.trees.specs.declared.Verdict.the-variants.{Holds, Violated}

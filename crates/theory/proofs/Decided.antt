@@ -3,7 +3,7 @@
 use Prim.Native.Nat.{ℕ, zero, suc, _+_, _-_, _<_, _≤_}
 use mathlib.Core.Path.{_≡_}
 use mathlib.Core.Logic.{_↔_, by-cases}
-use mathlib.Core.Bool.{Bool, true, false}
+use mathlib.Core.Bool.{Bool, true}
 use mathlib.Core.List.{List}
 use native.Mathlib.Decide.{decLt}
 use native.Mathlib.Omega.{arith}
@@ -16,7 +16,7 @@ use Rattle.theory.specs.Threshold.{windowEnd}
 use Rattle.theory.specs.Truth.{truth, sinceBack, untilAhead}
 use Rattle.theory.proofs.Words.{schedule-repeats}
 use Rattle.theory.proofs.Window.{violated-ever}
-use Rattle.theory.proofs.Says.{Says, wrong, says-exact, says-false, says-decided}
+use Rattle.theory.proofs.Says.{Says, wrong, says-exact, says-decided}
 use Rattle.theory.proofs.Says.{says-follows, says-alike, says-not, says-or, says-and, says-equal}
 use Rattle.rules.proofs.Neighbours.{since-first, since-unrolled, until-unrolled}
 
@@ -63,9 +63,6 @@ module _ {word : ℕ → ℕ} {u v : ℕ} (w : Repeats word u v) where
 
   pub truth-exact : (f : Formula) (i : ℕ) → (truth word u v f i ≡ true) ↔ Holds word f i
   truth-exact f i = says-exact (truth-says f i)
-
-  pub truth-false : (f : Formula) (i : ℕ) → (truth word u v f i ≡ false) ↔ ¬ Holds word f i
-  truth-false f i = says-false (truth-says f i)
 
   pub decided : (f : Formula) (i : ℕ) → Dec (Holds word f i)
   decided f i = says-decided (truth-says f i)

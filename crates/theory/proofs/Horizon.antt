@@ -67,11 +67,6 @@ module _ {cost : Cost} {frame : Frame} {Q : Node → Type 0} {c : Claim} where
       → Rule frame c x needs → Forest frame needs ws → Q x → Within cost frame Q c (x ∷ ws)
   within-itself {x} r fs near = record { root = x; nodes = _; tree = grown r fs; near = near; before = at-reflexive }
 
--- a search may look further
-pub within-wider : {cost : Cost} {frame : Frame} {Q R : Node → Type 0} {c : Claim} {ws : List Node}
-    → ((x : Node) → Q x → R x) → Within cost frame Q c ws → Within cost frame R c ws
-within-wider wide a = record { root = a .root; nodes = a .nodes; tree = a .tree; near = wide (a .root) (a .near); before = a .before }
-
 module _ {cost : Cost} {word : ℕ → ℕ} {u v : ℕ} (w : Repeats word u v) {f g : Formula} (i : ℕ) where
   -- lap by lap into the window; the bound m falls with them
   holds-inside : (m n : ℕ) → n < m → {ws : List Node} → Forest (repeatFrame word u v) (claim g (i + n) Holds ∷ run f i n Holds) ws

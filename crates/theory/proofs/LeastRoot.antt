@@ -1,7 +1,7 @@
 -- The root of the least tree is the smallest of those that reach the least cost with least parts.
 -- Assumes nothing.
 use Prim.Native.Nat.{ℕ, _<_, _≤_}
-use mathlib.Core.Path.{_≡_, ap₂}
+use mathlib.Core.Path.{ap₂}
 use mathlib.Core.List.{List, _∷_, head-eq-of-cons-eq}
 use native.Mathlib.Omega.{arith}
 use Rattle.rules.specs.Formula.{Formula}
@@ -76,17 +76,6 @@ module _ {cost : Cost} {frame : Frame} (law : Lawful frame) (exists : (f : Formu
       let a = cover vs t in
       at-transitive (root-leads r ls small law exists (a .near) (a .tree)) (a .before)))
 
-  -- The first root that meets the least cost is the root of the least tree: what a writer that knows the cost looks for.
-  pub first-met : {us : List Node} → Least cost frame f i us → {x : Node} {needs : List Claim} {ws : List Node}
-      → Rule frame (claim f i s) x needs → LeastForest cost frame needs ws → costOf cost (x ∷ ws) ≡ costOf cost us
-      → ((y : Node) (ms : List Claim) (vs : List Node) → Q y → NodeBefore y x → Rule frame (claim f i s) y ms → LeastForest cost frame ms vs
-      → ¬ (costOf cost (y ∷ vs) ≡ costOf cost us))
-      → Least cost frame f i (x ∷ ws)
-  first-met l r ls e others = smallest-least r ls (record {
-    cheapest = λ y ms vs q t ks. omega (arith, at-cost (l .least s (y ∷ vs) (grown t (least-forest-valid ks))));
-    first = λ y ms vs q t ks b. omega (arith, others y ms vs q b t ks, at-cost (l .least s (y ∷ vs) (grown t (least-forest-valid ks))));
-  })
-
 -- Where rule 16 weighs little enough, the roots that look no further than the window are enough to look at.
 module _ {cost : Cost} (lv : Level cost) {word : ℕ → ℕ} {u v : ℕ} (w : Repeats word u v) {f : Formula} {i : ℕ} {s : Verdict} where
   pub window-smallest-least : {x : Node} {needs : List Claim} {ws : List Node}
@@ -94,12 +83,3 @@ module _ {cost : Cost} (lv : Level cost) {word : ℕ → ℕ} {u v : ℕ} (w : R
       → Smallest cost (repeatFrame word u v) (InWindow u v (claim f i s)) (claim f i s) x ws
       → Least cost (repeatFrame word u v) f i (x ∷ ws)
   window-smallest-least = smallest-least (repeats-lawful w) (least-exists cost w) (λ vs t. inside lv w t)
-
-  pub window-first-met : {us : List Node} → Least cost (repeatFrame word u v) f i us → {x : Node} {needs : List Claim} {ws : List Node}
-      → Rule (repeatFrame word u v) (claim f i s) x needs → LeastForest cost (repeatFrame word u v) needs ws
-      → costOf cost (x ∷ ws) ≡ costOf cost us
-      → ((y : Node) (ms : List Claim) (vs : List Node) → InWindow u v (claim f i s) y → NodeBefore y x
-      → Rule (repeatFrame word u v) (claim f i s) y ms → LeastForest cost (repeatFrame word u v) ms vs
-      → ¬ (costOf cost (y ∷ vs) ≡ costOf cost us))
-      → Least cost (repeatFrame word u v) f i (x ∷ ws)
-  window-first-met = first-met (repeats-lawful w) (least-exists cost w) (λ vs t. inside lv w t)

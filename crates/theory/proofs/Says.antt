@@ -3,7 +3,7 @@
 use Prim.Native.Nat.{ℕ}
 use mathlib.Core.Path.{_≡_, refl}
 use mathlib.Core.Logic.{_↔_, _⊎_, inl, inr, ⊎-elim}
-use mathlib.Core.Bool.{Bool, true, false, not, _&&_, _||_, true≢false, false≢true}
+use mathlib.Core.Bool.{Bool, true, false, not, _&&_, _||_, false≢true}
 use lib.Dec.{eqb}
 use borrow.Author.Tests.{eqb-true, eqb-false}
 
@@ -14,10 +14,6 @@ pub data Says (P : Type 0) : Bool → Type 0 where
 pub says-exact : {P : Type 0} {b : Bool} → Says P b → (b ≡ true) ↔ P
 says-exact (right p) = (λ _. p, λ _. refl)
 says-exact (wrong n) = (λ e. absurd (false≢true e), λ p. absurd (n p))
-
-pub says-false : {P : Type 0} {b : Bool} → Says P b → (b ≡ false) ↔ ¬ P
-says-false (right p) = (λ e. absurd (true≢false e), λ n. absurd (n p))
-says-false (wrong n) = (λ _. n, λ _. refl)
 
 pub says-decided : {P : Type 0} {b : Bool} → Says P b → Dec P
 says-decided (right p) = yes p

@@ -25,11 +25,5 @@ module _ {P : ℕ → Type 0} {t v : ℕ} (p : Recurs P t v) (some : 0 < v) (i e
   window-ever k ge = below (suc k) k (omega arith) ge
 
 module _ {word : ℕ → ℕ} {u v : ℕ} (w : Repeats word u v) (g : Formula) (i : ℕ) where
-  pub windowEnd-after : i < windowEnd u v g i
-  windowEnd-after = omega arith
-
-  pub held-ever : ((k : ℕ) → i ≤ k → k < windowEnd u v g i → Holds word g k) → (k : ℕ) → i ≤ k → Holds word g k
-  held-ever = window-ever (holds-recurs w g) (w .some) i (windowEnd u v g i) (omega arith) (omega arith)
-
   pub violated-ever : ((k : ℕ) → i ≤ k → k < windowEnd u v g i → ¬ Holds word g k) → (k : ℕ) → i ≤ k → ¬ Holds word g k
   violated-ever = window-ever (not-recurs (holds-recurs w g)) (w .some) i (windowEnd u v g i) (omega arith) (omega arith)

@@ -4,7 +4,6 @@ use mathlib.Core.Path.{_≡_, refl, sym, ap, subst, subst₂, _∙_}
 use mathlib.Core.Bool.{true, _&&_, false≢true}
 use mathlib.Core.List.{List, []}
 use Prim.Native.Nat.{ℕ, _-_, _/_, _%_, _^_, _≤_}
-use native.Mathlib.Nat.{mod-lt}
 use native.Mathlib.Omega.{arith}
 use borrow.Author.Tests.{eq-eqb, eqb-true}
 use lib.Dec.{eqb}
@@ -14,7 +13,7 @@ use Rattle.rules.proofs.Entries.{cond-elim, and-both}
 use Rattle.trees.specs.Nodes.{node}
 use Rattle.trees.specs.Rules.{Frame, Claim, claim, Rule, rule1, rule2}
 use Rattle.trees.specs.Table.{ruleSign, ruleKind}
-use Rattle.trees.specs.Plans.{kindOf, leftOf, fitsOf, leaf, atomPlan, claimsOf}
+use Rattle.trees.specs.Plans.{leftOf, fitsOf, leaf, atomPlan}
 use Rattle.trees.specs.Walks.{Judges, Earlier}
 use Rattle.trees.specs.declared.Verdict.{Verdict}
 use Rattle.trees.specs.declared.Verdict.the-variants.{Holds, Violated}

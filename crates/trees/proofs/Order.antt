@@ -76,10 +76,6 @@ pub append-before : (xs : List Node) {ws vs : List Node} → Before ws vs → Be
 append-before [] b = b
 append-before (x ∷ xs) b = later (append-before xs b)
 
--- a part first inside two wholes that begin alike
-pub before-inside : (xs : List Node) {ws vs : List Node} → Before ws vs → (ys zs : List Node) → Before (xs ++ (ws ++ ys)) (xs ++ (vs ++ zs))
-before-inside xs b ys zs = append-before xs (before-append b ys zs)
-
 -- Two lists differ inside both, or they begin a common list.
 data Beside (ws vs : List Node) : Type 0 where
   differ : Before ws vs → Beside ws vs
@@ -169,11 +165,6 @@ module _ {cost : Cost} where
   at-append {ws} {vs} {xs} {ys} (earlier e b) (same d) =
       earlier (omega (arith, ap (costOf cost) d, cost-append cost ws xs, cost-append cost vs ys)) (before-append b xs ys)
   at-append {ws} {vs} {xs} {ys} (same e) c = rw e (append-at vs c)
-
-  -- replacing one part of a whole
-  pub at-inside : (xs : List Node) {ws vs : List Node} → AtOrBefore cost ws vs → (ys : List Node)
-      → AtOrBefore cost (xs ++ (ws ++ ys)) (xs ++ (vs ++ ys))
-  at-inside xs a ys = append-at xs (at-append a (at-reflexive {ws = ys}))
 
 -- The least tree
 

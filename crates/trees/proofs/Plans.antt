@@ -1,7 +1,7 @@
 -- The plans of the rules, a law a return: which test passed or failed on the way, and so which plan it is.
 -- Assumes nothing.
-use mathlib.Core.Path.{_≡_, refl, sym, ap, ap₂, _∙_}
-use mathlib.Core.Bool.{Bool, true, false, cond, _&&_, _||_}
+use mathlib.Core.Path.{_≡_, sym, ap, ap₂, _∙_}
+use mathlib.Core.Bool.{true, false, cond}
 use mathlib.Core.List.{List}
 use Prim.Native.Nat.{ℕ, _+_, _-_, _/_, _%_, _^_, _<_, _≤_}
 use native.Mathlib.Omega.{arith}
@@ -14,12 +14,11 @@ use Rattle.rules.specs.declared.Side.the-variants.{Past}
 use Rattle.rules.specs.declared.Entry.{Entry}
 use Rattle.trees.specs.Frames.{windowCount}
 use Rattle.trees.specs.Table.{signs, ruleSign, ruleKind, ruleFixed}
-use Rattle.trees.specs.Plans.{kindOf, leftOf, rightOf, signOf, turned, fitsOf, firstOf, verdictOf, leaf, atomPlan, plainPlan, listDemands}
+use Rattle.trees.specs.Plans.{kindOf, leftOf, rightOf, signOf, fitsOf, firstOf, verdictOf, leaf, atomPlan, plainPlan, listDemands}
 use Rattle.trees.specs.Plans.{countPlan, windowOf, listPlan, partOf, claimedBy}
 use Rattle.trees.specs.declared.Verdict.{Verdict}
 use Rattle.trees.specs.declared.Verdict.the-variants.{Holds, Violated}
 use Rattle.trees.specs.declared.Demands.{Demands}
-use Rattle.trees.specs.declared.Part.{Part}
 use Rattle.trees.specs.declared.Plan.{Plan}
 use Rattle.trees.specs.declared.Plan.the-variants.{Wrong, Go}
 use Rattle.trees.proofs.Words.{within-in, within-below, within-above}

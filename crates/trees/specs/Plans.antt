@@ -1,14 +1,14 @@
 -- What one node asks of its parts, as the checker works it out: the tests of form, kind, sign, count, position and letter, in this order.
 use Prim.Native.Nat.{ℕ, _+_, _-_, _/_, _%_, _^_, _<_, _≤_}
-use mathlib.Core.Bool.{Bool, true, cond, _&&_, _||_}
-use mathlib.Core.List.{List, [], _∷_, _++_}
+use mathlib.Core.Bool.{Bool, cond, _&&_, _||_}
+use mathlib.Core.List.{List, _++_}
 use lib.Dec.{eqb, leb, ltb}
 use Rattle.rules.specs.Formula.{height}
 use Rattle.rules.specs.Tables.{formulaOf}
 use Rattle.rules.specs.declared.Side.the-variants.{Past}
 use Rattle.rules.specs.declared.Entry.{Entry}
 use Rattle.rules.specs.declared.Entry.the-variants.{Atom as AtomEntry, Not, Or, And, Since, Until, Broken}
-use Rattle.trees.specs.Rules.{Claim, claim, run}
+use Rattle.trees.specs.Rules.{Claim, run}
 use Rattle.trees.specs.Frames.{windowCount}
 use Rattle.trees.specs.Table.{ruleSign, ruleKind, ruleFixed}
 use Rattle.trees.specs.declared.Verdict.{Verdict}

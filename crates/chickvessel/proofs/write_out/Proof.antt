@@ -1,7 +1,5 @@
 -- `chickvessel::write_out` meets its contract: 11, 12, or what the writer wrote.
 -- Assumes nothing.
-use mathlib.Core.Path.{_≡_}
-use Prim.Native.Nat.{_≤_}
 use native.Mathlib.Omega.{arith}
 use borrow.Author.Needs.{needs}
 use denote.Ref.{now}
@@ -12,7 +10,6 @@ use Rattle.theory.specs.Frames.{Lawful}
 use Rattle.theory.proofs.Sound.{schedule-lawful}
 use Rattle.theory.proofs.LeastExists.{schedule-least-exists}
 use Rattle.search.specs.Meant.{CellFor}
-use Rattle.chickvessel.specs.Accepted.{maxWords}
 use Rattle.chickvessel.proofs.WritingOut.{out-large, out-short, out-written, out-writable}
 use Rattle.chickvessel.proofs.write_out.Statement.{statement}
 use Rattle.chickvessel.proofs.write_out.Tie as tie

@@ -1,17 +1,15 @@
 -- `rules::height` meets its contract, the entry's index falling at each call: the parts that it goes down to are earlier entries.
 -- Assumes nothing.
-use mathlib.Core.Path.{_≡_, sym, ap, subst, _∙_}
-use mathlib.Core.List.{List, [], _∷_}
-use Prim.Native.Nat.{ℕ, _+_, _<_, _≤_}
+use mathlib.Core.Path.{_≡_, sym, ap, _∙_}
+use Prim.Native.Nat.{ℕ, _+_, _<_}
 use native.Mathlib.Omega.{arith}
 use borrow.Author.Needs.{needs}
 use borrow.Fn.Kinds.{In}
 use borrow.Fn.PlainCycle.{Measures, is, falls, and}
 use denote.Ref.{now}
-use Rattle.rules.specs.Formula.{height as heightOf}
-use Rattle.rules.specs.Tables.{entryAt, formulaOf}
+use Rattle.rules.specs.Tables.{entryAt}
 use Rattle.rules.specs.Heights.{partsOf}
-use Rattle.rules.specs.declared.Descent.the-variants.{Leaf, Down}
+use Rattle.rules.specs.declared.Descent.the-variants.{Down}
 use Rattle.rules.proofs.Heights.{height-leaf, down-below, height-bound, height-once, height-twice}
 use Rattle.rules.proofs.height.Reads as height
 use Rattle.rules.proofs.height.Kinds as height-kinds

@@ -1,7 +1,7 @@
 -- `rules::filled` meets its contract. The loop's invariant: the array is a copy of the words passed, over zeros.
 -- Assumes nothing.
 use mathlib.Core.Path.{_≡_, ap, _∙_}
-use Prim.Native.Nat.{_+_, _≤_, _-_}
+use Prim.Native.Nat.{_≤_, _-_}
 use native.Mathlib.Nat.{le-antisymm}
 use borrow.Author.Needs.{needs}
 use lib.ListN.{length, set, getD}

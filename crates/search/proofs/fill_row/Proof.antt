@@ -4,7 +4,7 @@ use mathlib.Core.Path.{refl, sym, _∙_}
 use native.Mathlib.Omega.{arith}
 use borrow.Author.Needs.{needs}
 use denote.Ref.{now}
-use Rattle.rules.specs.declared.Entry.the-variants.{Atom, Not, Or, And, Since, Until, Broken}
+use Rattle.rules.specs.declared.Entry.the-variants.{Not, Or, And, Since}
 use Rattle.search.proofs.Driven.{height-small, lap-small, row-ready, parts-of, start-small, until-fits}
 use Rattle.search.proofs.Driven.{atom-driven, broken-driven, not-driven, or-driven, and-driven, since-driven, until-driven}
 use Rattle.search.proofs.fill_row.Statement.{statement}

@@ -14,7 +14,7 @@ use Rattle.rules.specs.Tables.{formulaOf}
 use Rattle.trees.specs.Nodes.{Node, nodeOf}
 use Rattle.trees.specs.Rules.{Frame, Claim, claim, Rule}
 use Rattle.trees.specs.Frames.{scheduleFrame}
-use Rattle.trees.specs.Plans.{claimsOf, partOf}
+use Rattle.trees.specs.Plans.{claimsOf}
 use Rattle.trees.specs.Walks.{Within, Earlier, Judges, Walks}
 use Rattle.trees.specs.declared.Demands.{Demands}
 use Rattle.trees.specs.declared.Plan.the-variants.{Wrong, Go}
