@@ -3,7 +3,7 @@
 use mathlib.Core.Path.{_≡_, refl, sym, ap, subst, subst₂, _∙_}
 use mathlib.Core.Logic.{_↔_, by-cases}
 use mathlib.Core.List.{List, [], _∷_, map}
-use Prim.Native.Nat.{ℕ, _+_, _*_, _<_, _≤_}
+use Prim.Native.Nat.{ℕ, _<_, _≤_}
 use native.Mathlib.Decide.{ℕ-discrete}
 use native.Mathlib.Omega.{arith}
 use lib.ListN.{length, take, drop, length-map}
@@ -16,6 +16,7 @@ use Rattle.trees.specs.Rules.{Frame}
 use Rattle.trees.specs.Frames.{scheduleFrame}
 use Rattle.trees.specs.Least.{ones, Least}
 use Rattle.trees.specs.Plans.{signOf}
+use Rattle.trees.proofs.WordOrder.{wordFor, word-back}
 use Rattle.trees.proofs.Order.{least-one}
 use Rattle.chickvessel.specs.Answers.{figures}
 use Rattle.chickvessel.specs.Accepted.{maxWords}
@@ -26,13 +27,7 @@ use Rattle.chickvessel.proofs.Limits.{work-question}
 use Rattle.chickvessel.proofs.Working.{worked-either, worked-alike, worked-answer, worked-passed}
 use Rattle.chickvessel.proofs.DeterminedFound.{least-verdict, not-large, size-one}
 
--- A word from its three fields: so words with the same nodes are the same.
-abbrev wordFor : Node → ℕ
-wordFor x = x .rule * 16777216 + x .atom * 65536 + x .number
-
-word-back : (w : ℕ) → wordFor (nodeOf w) ≡ w
-word-back w = omega arith
-
+-- Words with the same nodes are the same.
 words-back : (words : List ℕ) → map wordFor (map nodeOf words) ≡ words
 words-back [] = refl
 words-back (w ∷ words) = λ k. word-back w k ∷ words-back words k

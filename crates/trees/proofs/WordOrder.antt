@@ -4,15 +4,19 @@ use Prim.Native.Nat.{ℕ, _+_, _*_, _/_, _%_, _<_}
 use mathlib.Core.Path.{_≡_, sym, ap, _∙_}
 use mathlib.Core.Logic.{_↔_}
 use native.Mathlib.Omega.{arith}
-use Rattle.trees.specs.Nodes.{nodeOf}
+use Rattle.trees.specs.Nodes.{Node, nodeOf}
 use Rattle.trees.specs.Least.{NodeBefore, byRule, byAtom, byNumber}
 use Rattle.trees.proofs.Order.{by-order}
 
-word-fields : (w : ℕ) → w ≡ 16777216 * (w / 16777216) + 65536 * (w / 65536 % 256) + w % 65536
-word-fields w = omega arith
+-- The word of a node's three fields.
+abbrev pub wordFor : Node → ℕ
+wordFor x = x .rule * 16777216 + x .atom * 65536 + x .number
+
+pub word-back : (w : ℕ) → wordFor (nodeOf w) ≡ w
+word-back w = omega arith
 
 pub node-one : (w v : ℕ) → nodeOf w ≡ nodeOf v → w ≡ v
-node-one w v e = word-fields w ∙ ap (λ n. 16777216 * n .rule + 65536 * n .atom + n .number) e ∙ sym (word-fields v)
+node-one w v e = sym (word-back w) ∙ ap wordFor e ∙ word-back v
 
 same-not-less : {a b : ℕ} → a ≡ b → ¬ (a < b)
 same-not-less e h = omega (arith, e, h)
