@@ -414,7 +414,7 @@ fn verdict_figure(verdict: Verdict) -> u32
 }
 
 // The four figures of an outcome: the one place where a case becomes numbers.
-fn answer_of(outcome: Outcome) -> Answer
+pub fn answer_of(outcome: Outcome) -> Answer
     ensures { λ r. ⌜ answerOf r ≡ figuresOf outcome ⌝ }
 {
     match outcome {

@@ -1,0 +1,5 @@
+pub mod Placing
+pub mod Lines
+pub mod Answering
+pub mod Determined
+pub mod Reading
