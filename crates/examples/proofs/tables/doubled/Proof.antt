@@ -1,11 +1,11 @@
--- `examples::doubled` is safe and ends.
+-- `examples::tables::doubled` is safe and ends.
 -- Assumes nothing.
 use mathlib.Core.Path.{_≡_}
 use Prim.Native.Nat.{_≤_, _-_}
 use borrow.Author.Needs.{needs}
 use lib.ListN.{length}
-use Rattle.examples.proofs.doubled.Statement.{statement}
-use Rattle.examples.proofs.doubled.Tie as tie
+use Rattle.examples.proofs.tables.doubled.Statement.{statement}
+use Rattle.examples.proofs.tables.doubled.Tie as tie
 
 abbrev Inv-loop : tie.InvT-loop
 Inv-loop kind words₀ e₀ words e = (1 ≤ e) × (e ≤ 32) × (length words ≡ 32)

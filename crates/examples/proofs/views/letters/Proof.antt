@@ -1,10 +1,10 @@
--- `examples::letters` is safe and ends.
+-- `examples::views::letters` is safe and ends.
 -- Assumes nothing.
 use Prim.Native.Nat.{_≤_, _-_}
 use borrow.Author.Needs.{needs}
 use lib.ListN.{length}
-use Rattle.examples.proofs.letters.Statement.{statement}
-use Rattle.examples.proofs.letters.Tie as tie
+use Rattle.examples.proofs.views.letters.Statement.{statement}
+use Rattle.examples.proofs.views.letters.Tie as tie
 
 abbrev Inv-loop : tie.InvT-loop
 Inv-loop part i₀ i = i ≤ length part
