@@ -2,7 +2,7 @@
 -- Assumes nothing.
 use mathlib.Core.Path.{_≡_, refl, sym, ap, subst, subst₂, _∙_}
 use mathlib.Core.Logic.{_↔_, by-cases}
-use mathlib.Core.List.{List, [], _∷_, map}
+use mathlib.Core.List.{List, map}
 use Prim.Native.Nat.{ℕ, _<_, _≤_}
 use native.Mathlib.Decide.{ℕ-discrete}
 use native.Mathlib.Omega.{arith}
@@ -16,7 +16,7 @@ use Rattle.trees.specs.Rules.{Frame}
 use Rattle.trees.specs.Frames.{scheduleFrame}
 use Rattle.trees.specs.Least.{ones, Least}
 use Rattle.trees.specs.Plans.{signOf}
-use Rattle.trees.proofs.WordOrder.{wordFor, word-back}
+use Rattle.trees.proofs.WordOrder.{words-one}
 use Rattle.trees.proofs.Order.{least-one}
 use Rattle.chickvessel.specs.Answers.{figures}
 use Rattle.chickvessel.specs.Accepted.{maxWords}
@@ -26,14 +26,6 @@ use Rattle.chickvessel.specs.Wrote.{overwritten, Written, unwritten, too
 use Rattle.chickvessel.proofs.Limits.{work-question}
 use Rattle.chickvessel.proofs.Working.{worked-either, worked-alike, worked-answer, worked-passed}
 use Rattle.chickvessel.proofs.DeterminedFound.{least-verdict, not-large, size-one}
-
--- Words with the same nodes are the same.
-words-back : (words : List ℕ) → map wordFor (map nodeOf words) ≡ words
-words-back [] = refl
-words-back (w ∷ words) = λ k. word-back w k ∷ words-back words k
-
-words-one : (words others : List ℕ) → map nodeOf words ≡ map nodeOf others → words ≡ others
-words-one words others e = sym (words-back words) ∙ ap (map wordFor) e ∙ words-back others
 
 -- What an answer of number 0 wrote.
 record Wording (frame : Frame) (f : Formula) (i : ℕ) (tree left : List ℕ) (r : Figures) : Type 0 where

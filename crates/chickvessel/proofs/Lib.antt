@@ -8,3 +8,4 @@ pub mod Working
 pub mod DeterminedTold
 pub mod DeterminedFound
 pub mod DeterminedWrote
+pub mod Outcomes

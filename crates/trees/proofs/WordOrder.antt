@@ -1,7 +1,8 @@
--- Nodes come in the order of their words as numbers, and a word is known by its node.
+-- Nodes come in the order of their words as numbers, and words are known by their nodes.
 -- Assumes nothing.
 use Prim.Native.Nat.{ℕ, _+_, _*_, _/_, _%_, _<_}
-use mathlib.Core.Path.{_≡_, sym, ap, _∙_}
+use mathlib.Core.Path.{_≡_, refl, sym, ap, _∙_}
+use mathlib.Core.List.{List, [], _∷_, map}
 use mathlib.Core.Logic.{_↔_}
 use native.Mathlib.Omega.{arith}
 use Rattle.trees.specs.Nodes.{Node, nodeOf}
@@ -9,14 +10,21 @@ use Rattle.trees.specs.Least.{NodeBefore, byRule, byAtom, byNumber}
 use Rattle.trees.proofs.Order.{by-order}
 
 -- The word of a node's three fields.
-abbrev pub wordFor : Node → ℕ
+abbrev wordFor : Node → ℕ
 wordFor x = x .rule * 16777216 + x .atom * 65536 + x .number
 
-pub word-back : (w : ℕ) → wordFor (nodeOf w) ≡ w
+word-back : (w : ℕ) → wordFor (nodeOf w) ≡ w
 word-back w = omega arith
 
 pub node-one : (w v : ℕ) → nodeOf w ≡ nodeOf v → w ≡ v
 node-one w v e = sym (word-back w) ∙ ap wordFor e ∙ word-back v
+
+words-back : (words : List ℕ) → map wordFor (map nodeOf words) ≡ words
+words-back [] = refl
+words-back (w ∷ words) = λ k. word-back w k ∷ words-back words k
+
+pub words-one : (words others : List ℕ) → map nodeOf words ≡ map nodeOf others → words ≡ others
+words-one words others e = sym (words-back words) ∙ ap (map wordFor) e ∙ words-back others
 
 same-not-less : {a b : ℕ} → a ≡ b → ¬ (a < b)
 same-not-less e h = omega (arith, e, h)

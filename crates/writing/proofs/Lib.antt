@@ -14,3 +14,4 @@ pub mod Leading
 pub mod Putting
 pub mod Underway
 pub mod Planned
+pub mod Determined

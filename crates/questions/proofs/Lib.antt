@@ -1,0 +1,11 @@
+pub mod Splits
+pub mod Numbers
+pub mod Keeping
+pub mod Keywords
+pub mod Going
+pub mod Wording
+pub mod Entering
+pub mod Rights
+pub mod Wholes
+pub mod Answers
+pub mod Determined

@@ -1,0 +1,242 @@
+// The text of a question, read line by line: prefix, loop, entries, ask.
+use decimals::Numeral;
+use decimals::number;
+ghost use Prim.Native.Nat.{_≤_};
+ghost use mathlib.Core.Path.{_≡_};
+ghost use mathlib.Core.Bool.{true};
+ghost use lib.ListN.{length, set};
+ghost use Rattle.questions.specs.Texts.{prefixWord, loopWord, Commas, Letters};
+ghost use Rattle.questions.specs.Lists.{Keyword, Worded, Lists, Enters, Asks, AllEntries};
+ghost use Rattle.questions.specs.Questions.{Reads};
+
+const NEWLINE: u8 = 10;
+
+const COMMA: u8 = 44;
+
+// How many numbers a list has, and the place behind its newline.
+pub enum Listing {
+    Wrong,
+    Read(usize, usize),
+}
+
+// An entry's word, and the place behind its line.
+pub enum Entered {
+    Wrong,
+    Read(u32, usize),
+}
+
+// The entry and the position asked, and the place behind the line.
+pub enum Asked {
+    Wrong,
+    Read(usize, usize, usize),
+}
+
+// How many lines of entries stand together, and the place behind them.
+pub struct Entries {
+    pub count: usize,
+    pub next: usize,
+}
+
+// What a text says: the first wrong line, or how many letters and entries it has, even those not kept, and what it asks.
+pub struct Question {
+    pub wrong: bool,
+    pub line: usize,
+    pub prefix: usize,
+    pub again: usize,
+    pub entries: usize,
+    pub entry: usize,
+    pub position: usize,
+}
+
+// Keeps a number, if the buffer has the place.
+fn put(keep: &mut [u32], at: usize, n: u32)
+    ensures { λ r. ⌜ now (keep .exit) ≡ set (now (keep .entry)) at n ⌝ }
+{
+    if at < keep.len() {
+        keep[at] = n;
+    }
+}
+
+// Whether a keyword stands at a place.
+fn begins(text: &[u8], at: usize, word: &[u8]) -> bool
+    requires { ⌜ at ≤ length (now text) ⌝ }
+    ensures { λ r. ⌜ Keyword (now (text .entry)) at (now (word .entry)) r ⌝ }
+{
+    let mut j = 0;
+    while j < word.len() {
+        if text.len() <= at + j {
+            return false;
+        }
+        if text[at + j] != word[j] {
+            return false;
+        }
+        j += 1;
+    }
+    true
+}
+
+// Numbers with commas, up to the end of the line.
+fn commas(text: &[u8], from: usize, max: u32, keep: &mut [u32]) -> Listing
+    requires { ⌜ from ≤ length (now text) ⌝ }
+    ensures { λ r. ⌜ Lists (Commas max) (now (text .entry)) from (now (keep .entry)) (now (keep .exit)) r ⌝ }
+{
+    let mut at = from;
+    let mut count = 0;
+    loop {
+        let Numeral::Read(n, next) = number(text, at, max) else {
+            return Listing::Wrong;
+        };
+        if text.len() <= next {
+            return Listing::Wrong;
+        }
+        put(keep, count, n);
+        count += 1;
+        if text[next] == NEWLINE {
+            return Listing::Read(count, next + 1);
+        }
+        if text[next] != COMMA {
+            return Listing::Wrong;
+        }
+        at = next + 1;
+    }
+}
+
+// A line of a keyword and numbers.
+fn fields(text: &[u8], at: usize, word: &[u8], max: u32, keep: &mut [u32]) -> Listing
+    requires { ⌜ at ≤ length (now text) ⌝ }
+    ensures { λ r. ⌜ Lists (Worded (now (word .entry)) (Commas max)) (now (text .entry)) at (now (keep .entry)) (now (keep .exit)) r ⌝ }
+{
+    if !begins(text, at, word) {
+        return Listing::Wrong;
+    }
+    commas(text, at + word.len(), max, keep)
+}
+
+// A line of a keyword and letters, perhaps none.
+fn letters(text: &[u8], at: usize, word: &[u8], keep: &mut [u32]) -> Listing
+    requires { ⌜ at ≤ length (now text) ⌝ }
+    ensures { λ r. ⌜ Lists (Worded (now (word .entry)) Letters) (now (text .entry)) at (now (keep .entry)) (now (keep .exit)) r ⌝ }
+{
+    if !begins(text, at, word) {
+        return Listing::Wrong;
+    }
+    let from = at + word.len();
+    if text.len() <= from {
+        return Listing::Wrong;
+    }
+    if text[from] == NEWLINE {
+        return Listing::Read(0, from + 1);
+    }
+    commas(text, from, 4294967295, keep)
+}
+
+fn prefix_line(text: &[u8], at: usize, keep: &mut [u32]) -> Listing
+    requires { ⌜ at ≤ length (now text) ⌝ }
+    ensures { λ r. ⌜ Lists (Worded prefixWord Letters) (now (text .entry)) at (now (keep .entry)) (now (keep .exit)) r ⌝ }
+{
+    let word: [u8; 7] = [112, 114, 101, 102, 105, 120, 61];
+    letters(text, at, &word, keep)
+}
+
+fn loop_line(text: &[u8], at: usize, keep: &mut [u32]) -> Listing
+    requires { ⌜ at ≤ length (now text) ⌝ }
+    ensures { λ r. ⌜ Lists (Worded loopWord Letters) (now (text .entry)) at (now (keep .entry)) (now (keep .exit)) r ⌝ }
+{
+    let word: [u8; 5] = [108, 111, 111, 112, 61];
+    letters(text, at, &word, keep)
+}
+
+fn entry_line(text: &[u8], at: usize) -> Entered
+    requires { ⌜ at ≤ length (now text) ⌝ }
+    ensures { λ r. ⌜ Enters (now (text .entry)) at r ⌝ }
+{
+    let word: [u8; 6] = [101, 110, 116, 114, 121, 61];
+    let mut keep = [0u32; 3];
+    let Listing::Read(count, next) = fields(text, at, &word, 255, &mut keep) else {
+        return Entered::Wrong;
+    };
+    if count != 3 {
+        return Entered::Wrong;
+    }
+    Entered::Read(keep[0] * 65536 + keep[1] * 256 + keep[2], next)
+}
+
+fn ask_line(text: &[u8], at: usize) -> Asked
+    requires { ⌜ at ≤ length (now text) ⌝ }
+    ensures { λ r. ⌜ Asks (now (text .entry)) at r ⌝ }
+{
+    let word: [u8; 4] = [97, 115, 107, 61];
+    let mut keep = [0u32; 2];
+    let Listing::Read(count, next) = fields(text, at, &word, 65535, &mut keep) else {
+        return Asked::Wrong;
+    };
+    if count != 2 {
+        return Asked::Wrong;
+    }
+    Asked::Read(keep[0] as usize, keep[1] as usize, next)
+}
+
+// All lines of entries from a place on.
+fn entry_lines(text: &[u8], from: usize, table: &mut [u32]) -> Entries
+    requires { ⌜ from ≤ length (now text) ⌝ }
+    ensures { λ r. ⌜ AllEntries (now (text .entry)) from (now (table .entry)) (now (table .exit)) r ⌝ }
+{
+    let mut at = from;
+    let mut count = 0;
+    loop {
+        let Entered::Read(word, next) = entry_line(text, at) else {
+            return Entries { count, next: at };
+        };
+        put(table, count, word);
+        count += 1;
+        at = next;
+    }
+}
+
+fn refused(line: usize) -> Question
+    ensures { λ r. ⌜ r ≡ record { wrong = true; line = line; prefix = 0; again = 0; entries = 0; entry = 0; position = 0 } ⌝ }
+{
+    Question {
+        wrong: true,
+        line,
+        prefix: 0,
+        again: 0,
+        entries: 0,
+        entry: 0,
+        position: 0,
+    }
+}
+
+// Reads the text of a question. Of each list of letters the first 49 are kept, of the entries the first 33.
+pub fn read(
+    text: &[u8],
+    prefix: &mut [u32; 49],
+    again: &mut [u32; 49],
+    table: &mut [u32; 33],
+) -> Question
+    ensures { λ r. ⌜ Reads (now (text .entry)) (now (prefix .entry)) (now (prefix .exit)) (now (again .entry)) (now (again .exit))
+        (now (table .entry)) (now (table .exit)) r ⌝ }
+{
+    let Listing::Read(letters, second) = prefix_line(text, 0, prefix) else {
+        return refused(1);
+    };
+    let Listing::Read(laps, third) = loop_line(text, second, again) else {
+        return refused(2);
+    };
+    let found = entry_lines(text, third, table);
+    let Asked::Read(entry, position, end) = ask_line(text, found.next) else {
+        return refused(found.count + 3);
+    };
+    if end < text.len() {
+        return refused(found.count + 4);
+    }
+    Question {
+        wrong: false,
+        line: 0,
+        prefix: letters,
+        again: laps,
+        entries: found.count,
+        entry,
+        position,
+    }
+}
