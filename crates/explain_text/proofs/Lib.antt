@@ -1,1 +1,3 @@
 pub mod Capped
+pub mod Outputs
+pub mod Determined

@@ -16,8 +16,7 @@ use Rattle.decimals.proofs.Standing.{digits-one}
 field-read : {n m end : ℕ} {bs cs xs ys : List ℕ} → end < 48 → Field n end bs → Field m end cs → bs ++ xs ≡ cs ++ ys → (n ≡ m) × (xs ≡ ys)
 field-read {n} {end = end} {xs = xs} {ys = ys} low (field {ds} d) (field {ds = es} d′) e =
     let split = sym (append-assoc ds (end ∷ []) xs) ∙ e ∙ append-assoc es (end ∷ []) ys in
-    let same = digits-one ds es (end ∷ xs) (end ∷ ys) (decimal-digits d) (decimal-digits d′) (inl low) (inl low) split in
-    (
+    let same = digits-one ds es (end ∷ xs) (end ∷ ys) (decimal-digits d) (decimal-digits d′) (inl low) (inl low) split in (
       decimal-number (subst (λ l. Decimal l n) same d) d′,
       ap (drop 1) (append-cancel-left ds (end ∷ xs) (end ∷ ys) (split ∙ ap (λ l. l ++ (end ∷ ys)) (sym same))),
     )

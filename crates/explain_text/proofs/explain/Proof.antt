@@ -1,82 +1,78 @@
+-- `explain_text::explain` meets its contract: 14, 13, or what write answers to the question, a law a return.
+-- Assumes nothing.
+use mathlib.Core.Path.{sym}
+use native.Mathlib.Omega.{arith}
 use borrow.Author.Needs.{needs}
+use lib.Seq.{length-take-le}
+use Rattle.explain_text.proofs.Outputs.{wrong-few, wrote-few, output-long, output-wrong, output-answered, prefix-room, loop-room, table-room}
 use Rattle.explain_text.proofs.explain.Statement.{statement}
 use Rattle.explain_text.proofs.explain.Tie as tie
-use Rattle.explain_text.proofs.explain.Reads as reads
-use Rattle.explain_text.proofs.explain.Lts as lts
-use Rattle.chickvessel.proofs.write.Reads as write-reads
-use Rattle.explain_text.proofs.smaller.Reads as smaller-reads
-use Rattle.questions.proofs.read.Reads as read-reads
-use Rattle.rendering.proofs.long_text.Reads as long-text-reads
-use Rattle.rendering.proofs.rendered.Reads as rendered-reads
-use Rattle.rendering.proofs.wrong_text.Reads as wrong-text-reads
 
--- src/lib.rt:33:9
 long-text-requires : tie.Need-long-text-requires
 long-text-requires c κs = search needs
 
--- src/lib.rt:33:9
 returns : tie.Need-returns
-returns c = ?
+returns c = output-long (c .before .before .if1 .taken) (c .long-text .ensures)
 
--- src/lib.rt:38:9
 read-requires : tie.Need-read-requires
 read-requires c κs = search needs
 
--- src/lib.rt:40:9
 wrong-text-requires : tie.Need-wrong-text-requires
-wrong-text-requires c κs = ?
+wrong-text-requires c κs =
+    let read = c .before .before in
+    omega (arith, wrong-few (read .read .ensures .refused (c .before .if2 .taken) .line), read .before .before .before .before .if1 .left)
 
--- src/lib.rt:40:9
 returns-2 : tie.Need-returns-2
-returns-2 c = ?
+returns-2 c =
+    let read = c .before .before .before in
+    output-wrong (read .before .before .before .before .if1 .left) (read .read .ensures .refused (c .before .before .if2 .taken) .line) (c .wrong-text .ensures)
 
--- src/lib.rt:42:9
 smaller-requires : tie.Need-smaller-requires
 smaller-requires c κs = search needs
 
--- src/lib.rt:43:9
 smaller-requires-2 : tie.Need-smaller-requires-2
 smaller-requires-2 c κs = search needs
 
--- src/lib.rt:44:9
 smaller-requires-3 : tie.Need-smaller-requires-3
 smaller-requires-3 c κs = search needs
 
--- src/lib.rt:46:9
 array-share-prefix-prefix : tie.Need-array-share-prefix-prefix
-array-share-prefix-prefix c = ?
+array-share-prefix-prefix c =
+    let test = c .before .before .before in
+    prefix-room (test .before .read .ensures .understood (test .if2 .left)) (c .before .before .smaller .ensures)
 
--- src/lib.rt:46:9
 slice-aggregate-write : tie.Need-slice-aggregate-write
-slice-aggregate-write c = ?
+slice-aggregate-write c = sym (length-take-le _ _ (array-share-prefix-prefix (c .before)))
 
--- src/lib.rt:47:9
 array-share-prefix-again : tie.Need-array-share-prefix-again
-array-share-prefix-again c = ?
+array-share-prefix-again c =
+    let test = c .before .before .before .before in
+    loop-room (test .before .read .ensures .understood (test .if2 .left)) (c .before .before .smaller2 .ensures)
 
--- src/lib.rt:47:9
 slice-aggregate-write-2 : tie.Need-slice-aggregate-write-2
-slice-aggregate-write-2 c = ?
+slice-aggregate-write-2 c = sym (length-take-le _ _ (array-share-prefix-again (c .before)))
 
--- src/lib.rt:48:9
 array-share-prefix-table : tie.Need-array-share-prefix-table
-array-share-prefix-table c = ?
+array-share-prefix-table c =
+    let test = c .before .before .before .before .before in
+    table-room (test .before .read .ensures .understood (test .if2 .left)) (c .before .before .smaller3 .ensures)
 
--- src/lib.rt:48:9
 slice-aggregate-write-3 : tie.Need-slice-aggregate-write-3
-slice-aggregate-write-3 c = ?
+slice-aggregate-write-3 c = sym (length-take-le _ _ (array-share-prefix-table (c .before)))
 
--- src/lib.rt:45:9
 write-requires : tie.Need-write-requires
 write-requires c κs = search needs
 
--- src/lib.rt:54:5
 rendered-requires : tie.Need-rendered-requires
-rendered-requires c κs = ?
+rendered-requires c κs = wrote-few (c .before .before .before .write .ensures)
 
--- src/lib.rt:24:1
 returns-3 : tie.Need-returns-3
-returns-3 c = ?
+returns-3 c =
+    let write = c .before .before .before .before in
+    let third = write .before .before .before .before .before .before in
+    let test = third .before .before .before in
+    output-answered (test .before .before .before .before .before .if1 .left) (test .before .read .ensures .understood (test .if2 .left))
+    (third .before .before .smaller .ensures) (third .before .smaller2 .ensures) (third .smaller3 .ensures) (write .write .ensures) (c .rendered .ensures)
 
 pub explain-spec : {M : Type 1} → statement M
 explain-spec =

@@ -1,0 +1,107 @@
+-- What the text program's output is, a law a return: 14, 13, or what write answers to the question that was read.
+-- Assumes nothing.
+use mathlib.Core.Path.{_≡_, refl, sym, ap, subst, _∙_}
+use mathlib.Core.Logic.{by-cases}
+use mathlib.Core.List.{List}
+use Prim.Native.Nat.{ℕ, _+_, _<_, _≤_, min}
+use native.Mathlib.Decide.{decLe}
+use native.Mathlib.Omega.{arith}
+use lib.ListN.{length, take, drop, length-append}
+use lib.Seq.{take-append-seam, length-take-le, take-all}
+use Rattle.schedule.specs.Figures.{Figures}
+use Rattle.rules.specs.Formula.{Formula}
+use Rattle.trees.specs.Rules.{Frame}
+use Rattle.chickvessel.specs.Accepted.{maxWords}
+use Rattle.chickvessel.specs.Worked.{Worked, refused, answered}
+use Rattle.chickvessel.specs.Wrote.{overwritten, Written, unwritten, tooShort, written, Wrote}
+use Rattle.questions.specs.Texts.{askWord, line, Said, Line, prefixed, looped, entered, Right, begun, further, WrongLine, stuck, goes-on}
+use Rattle.questions.specs.Lists.{kept}
+use Rattle.questions.specs.Questions.{Understood}
+use Rattle.questions.specs.declared.Question.{Question}
+use Rattle.rendering.specs.Texts.{Rendered, WrongText, LongText}
+use Rattle.rendering.specs.Placed.{Placed}
+use Rattle.rendering.proofs.Placing.{placed-as}
+use Rattle.explain_text.specs.Explained.{maxText, Output}
+use Rattle.explain_text.specs.Explained
+use Rattle.explain_text.proofs.Capped.{capped-wrote}
+
+-- What is kept of a list: its beginning.
+module _ (size : ℕ) (found ns : List ℕ) (n : ℕ) (e : n ≡ min (length ns) size) where
+  cut-is : length (take size ns) ≡ n
+  cut-is = by-cases (decLe (length ns) size)
+      (λ le. ap length (take-all size ns le) ∙ omega (arith, e, le))
+      (λ gt. length-take-le size ns (omega (arith, gt)) ∙ omega (arith, e, gt))
+
+  pub kept-room : n ≤ length (kept size found ns)
+  kept-room = omega (arith, cut-is, length-append (take size ns) (drop (length (take size ns)) found))
+
+  pub kept-front : take n (kept size found ns) ≡ take size ns
+  kept-front = ap (λ k. take k (kept size found ns)) (sym cut-is) ∙ take-append-seam (take size ns) (drop (length (take size ns)) found)
+
+-- A line has a byte at least, so there are no more lines than bytes.
+line-some : {k : ℕ} {s t : Said} {bs : List ℕ} → Line k s bs t → 1 ≤ length bs
+line-some (prefixed z ls) = omega arith
+line-some (looped o ls) = omega arith
+line-some (entered le cs) = omega arith
+
+lines-few : {k : ℕ} {bs : List ℕ} {s : Said} → Right k bs s → k ≤ length bs
+lines-few begun = omega arith
+lines-few (further {bs} {new} r l) = omega (arith, lines-few r, line-some l, length-append bs new)
+
+pub wrong-few : {text : List ℕ} {k : ℕ} → WrongLine text k → k ≤ length text + 2
+wrong-few (stuck b more whole) = omega (arith, lines-few (b .right), ap length (b .whole), length-append (b .front) (b .rest))
+wrong-few (goes-on b is) = let w = b .asked in
+    omega (arith, w .count, lines-few (w .right), ap length (w .whole), length-append (w .front) (line askWord (w .fields)), ap length (b .whole), length-append (b .front) (b .rest))
+
+-- The size is no larger than a tree may be, and than what is left in the buffer.
+module _ {frame : Frame} {f : Formula} {i : ℕ} {tree left : List ℕ} where
+  written-few : {r : Figures} → Written frame f i tree left r → (r .size ≤ maxWords) × (r .size ≤ length left)
+  unfolding overwritten
+  written-few (unwritten a) = (omega arith, omega arith)
+  written-few (tooShort l le lt) = (omega arith, omega arith)
+  written-few (written words l le room is) = (le, omega (arith, ap length is, length-append words (drop (length words) tree)))
+
+worked-few : {prefix loop list : List ℕ} {e i : ℕ} {found work : List ℕ} {frame : Frame} {f : Formula} {k : ℕ} {tree left : List ℕ} {r : Figures}
+    → Worked prefix loop list e i found work (Written frame f k tree left) r → (r .size ≤ maxWords) × (r .size ≤ length left)
+worked-few (refused n p l) = let none = ap (λ g. g .size) p in (omega (arith, none), omega (arith, none))
+worked-few (answered n l a) = written-few a
+
+pub wrote-few : {prefix loop list : List ℕ} {e i : ℕ} {work workLeft tree treeLeft : List ℕ} {r : Figures}
+    → Wrote prefix loop list e i work workLeft tree treeLeft r → (r .size ≤ maxWords) × (r .size ≤ length treeLeft)
+wrote-few w = worked-few (w .answer)
+
+module _ {text work tree out outLeft : List ℕ} {r : ℕ} where
+  pub output-long : maxText < length text → Placed LongText 0 out outLeft r → Placed (Output text work work tree tree) 0 out outLeft r
+  output-long lt = placed-as (λ bs t. Explained.long lt refl refl t)
+
+  pub output-wrong : {line : ℕ} → length text ≤ maxText → WrongLine text line → Placed (WrongText line) 0 out outLeft r → Placed (Output text work work tree tree) 0 out outLeft r
+  output-wrong {line} le w = placed-as (λ bs t. Explained.wrong line le w refl refl t)
+
+-- The answer to the question that was read, from the lists that were kept.
+pub output-answered : {text work workLeft tree treeLeft out outLeft : List ℕ} {r : ℕ} {pf pn lf ln tf tn : List ℕ} {q : Question} {figures : Figures} {n m k : ℕ}
+    → length text ≤ maxText → (u : Understood text pf pn lf ln tf tn q)
+    → n ≡ min (q .prefix) 49 → m ≡ min (q .again) 49 → k ≡ min (q .entries) 33
+    → Wrote (take n pn) (take m ln) (take k tn) (q .entry) (q .position) work workLeft tree treeLeft figures
+    → Placed (Rendered figures (take (figures .size) treeLeft)) 0 out outLeft r
+    → Placed (Output text work workLeft tree treeLeft) 0 out outLeft r
+output-answered {work = work} {workLeft} {tree} {treeLeft} {pf = pf} {pn} {lf} {ln} {tf} {tn} {q} {figures} {n} {m} {k} le u en em ek w =
+    let s = u .says in
+    let front = ap (take n) (u .prefix-kept) ∙ kept-front 49 pf (s .prefix) n (en ∙ ap (λ c. min c 49) (u .prefix)) in
+    let loop = ap (take m) (u .loop-kept) ∙ kept-front 49 lf (s .loop) m (em ∙ ap (λ c. min c 49) (u .again)) in
+    let table = ap (take k) (u .table-kept) ∙ kept-front 33 tf (s .table) k (ek ∙ ap (λ c. min c 33) (u .entries)) in
+    let capped = subst (λ a. Wrote a (take 49 (s .loop)) (take 33 (s .table)) (q .entry) (q .position) work workLeft tree treeLeft figures) front
+    (subst (λ a. Wrote (take n pn) a (take 33 (s .table)) (q .entry) (q .position) work workLeft tree treeLeft figures) loop
+    (subst (λ a. Wrote (take n pn) (take m ln) a (q .entry) (q .position) work workLeft tree treeLeft figures) table w)) in
+    placed-as (λ bs t. Explained.answered s (q .entry) (q .position) (u .lines) figures le (u .whole)
+    (capped-wrote (s .prefix) (s .loop) (s .table) (q .entry) (q .position) capped) t)
+
+-- room for the lists that are lent
+module _ {text pf pn lf ln tf tn : List ℕ} {q : Question} (u : Understood text pf pn lf ln tf tn q) where
+  pub prefix-room : {n : ℕ} → n ≡ min (q .prefix) 49 → n ≤ length pn
+  prefix-room {n} e = omega (arith, kept-room 49 pf (u .says .prefix) n (e ∙ ap (λ c. min c 49) (u .prefix)), ap length (u .prefix-kept))
+
+  pub loop-room : {n : ℕ} → n ≡ min (q .again) 49 → n ≤ length ln
+  loop-room {n} e = omega (arith, kept-room 49 lf (u .says .loop) n (e ∙ ap (λ c. min c 49) (u .again)), ap length (u .loop-kept))
+
+  pub table-room : {n : ℕ} → n ≡ min (q .entries) 33 → n ≤ length tn
+  table-room {n} e = omega (arith, kept-room 33 tf (u .says .table) n (e ∙ ap (λ c. min c 33) (u .entries)), ap length (u .table-kept))
