@@ -16,6 +16,9 @@ if ! command -v rt >/dev/null; then
     exit 1
 fi
 
+need cmake cmake
+need make make
+need pkg-config pkg-config
 if [ "$(uname -m)" = x86_64 ]; then
     need g++ g++
     CXX=g++
