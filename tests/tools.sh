@@ -1,4 +1,5 @@
-# What the C++ tests are built and run with: CXX, a compiler for x86-64, and RUN, what a program of it is run with.
+# What the tests are built and run with, from the top of the repository: CXX, a compiler for x86-64; RUN, what a program of it is run with; RUN_RT, what a
+# program of rt is.
 # Rattle's archives are x86-64 on every machine, so the programs that link them are too.
 
 # need COMMAND PACKAGE: installs a Debian package if its command is missing.
@@ -11,10 +12,7 @@ need() {
     "${as_root[@]}" apt-get install -y -qq "$2" >/dev/null
 }
 
-if ! command -v rt >/dev/null; then
-    echo "tools: rt, the Rattle toolchain, is not on this machine" >&2
-    exit 1
-fi
+. tests/rattle.sh
 
 need cmake cmake
 need make make
@@ -26,7 +24,6 @@ if [ "$(uname -m)" = x86_64 ]; then
 else
     need x86_64-linux-gnu-g++ g++-x86-64-linux-gnu
     CXX=x86_64-linux-gnu-g++
-    kit=$(dirname "$(dirname "$(rt doc)")")
     libc=$("$CXX" -print-file-name=libc.so.6)
     RUN=("$kit/on/$(uname -m)/toolchain/bin/qemu-x86_64" -L "$(dirname "$(dirname "$libc")")")
 fi
