@@ -26,8 +26,8 @@ module _ {text work tree : List ℕ} where
   output-one (long lt w t l) (wrong n le x w′ t′ l′) = absurd (omega (arith, lt, le))
   output-one (long lt w t l) (answered s e i k r le x wr l′) = absurd (omega (arith, lt, le))
   output-one (wrong n le x w t l) (long lt w′ t′ l′) = absurd (omega (arith, lt, le))
-  output-one (wrong n le x w t l) (wrong m le′ y w′ t′ l′) =
-      record { work = w ∙ sym w′; tree = t ∙ sym t′; output = wrong-text-one (subst (λ k. WrongText k _) (wrong-one x y) l) l′ }
+  output-one {bytes = bytes} (wrong n le x w t l) (wrong m le′ y w′ t′ l′) =
+      record { work = w ∙ sym w′; tree = t ∙ sym t′; output = wrong-text-one (subst (λ k. WrongText k bytes) (wrong-one x y) l) l′ }
   output-one (wrong n le x w t l) (answered s e i k r le′ y wr l′) = absurd (whole-not-wrong y x)
   output-one (answered s e i k r le x wr l) (long lt w′ t′ l′) = absurd (omega (arith, lt, le))
   output-one (answered s e i k r le x wr l) (wrong n le′ y w′ t′ l′) = absurd (whole-not-wrong x y)
