@@ -134,25 +134,22 @@ fn prefix_line(text: &[u8], at: usize, keep: &mut [u32]) -> Listing
     requires { ⌜ at ≤ length (now text) ⌝ }
     ensures { λ r. ⌜ Lists (Worded prefixWord Letters) (now (text .entry)) at (now (keep .entry)) (now (keep .exit)) r ⌝ }
 {
-    let word: [u8; 7] = [112, 114, 101, 102, 105, 120, 61];
-    letters(text, at, &word, keep)
+    letters(text, at, b"prefix=", keep)
 }
 
 fn loop_line(text: &[u8], at: usize, keep: &mut [u32]) -> Listing
     requires { ⌜ at ≤ length (now text) ⌝ }
     ensures { λ r. ⌜ Lists (Worded loopWord Letters) (now (text .entry)) at (now (keep .entry)) (now (keep .exit)) r ⌝ }
 {
-    let word: [u8; 5] = [108, 111, 111, 112, 61];
-    letters(text, at, &word, keep)
+    letters(text, at, b"loop=", keep)
 }
 
 fn entry_line(text: &[u8], at: usize) -> Entered
     requires { ⌜ at ≤ length (now text) ⌝ }
     ensures { λ r. ⌜ Enters (now (text .entry)) at r ⌝ }
 {
-    let word: [u8; 6] = [101, 110, 116, 114, 121, 61];
     let mut keep = [0u32; 3];
-    let Listing::Read(count, next) = fields(text, at, &word, 255, &mut keep) else {
+    let Listing::Read(count, next) = fields(text, at, b"entry=", 255, &mut keep) else {
         return Entered::Wrong;
     };
     if count != 3 {
@@ -165,9 +162,8 @@ fn ask_line(text: &[u8], at: usize) -> Asked
     requires { ⌜ at ≤ length (now text) ⌝ }
     ensures { λ r. ⌜ Asks (now (text .entry)) at r ⌝ }
 {
-    let word: [u8; 4] = [97, 115, 107, 61];
     let mut keep = [0u32; 2];
-    let Listing::Read(count, next) = fields(text, at, &word, 65535, &mut keep) else {
+    let Listing::Read(count, next) = fields(text, at, b"ask=", 65535, &mut keep) else {
         return Asked::Wrong;
     };
     if count != 2 {
