@@ -15,7 +15,7 @@ std::size_t chickvessel_explain(const std::uint8_t* text, std::size_t text_len, 
 
 namespace text {
 
-// 4,095 node lines of at most 18 bytes, and 40 bytes for verdict and size.
+// 4,095 node lines of at most 19 bytes, and 40 bytes for verdict and size.
 inline constexpr std::size_t OUT = 4095 * 19 + 40;
 
 // Holds the text function against the right output for a text. The buffers hold junk before, and lie between guards. Throws second::failure if the output is

@@ -1,6 +1,7 @@
 // text CASES [SEED [FOLDER COUNT]]: the text function of the proved program against the second program, byte for byte. CASES is the folder of the case files;
 // into FOLDER go at least COUNT of the texts, as N.in, with the right outputs, N.out, to be put through the program itself.
 #include "counts.hpp"
+#include "depth.hpp"
 #include "library_text.hpp"
 #include "sources.hpp"
 
@@ -107,7 +108,7 @@ int main(int argc, char** argv) try {
         met.text("damaged", text, output), k.offer(text, output, 47);
     }
     k.insist();
-    std::cout << met.lines() << "\ntexts: no difference\n";
+    std::cout << met.lines() << "\nstack of the text function: " << text::deepest() << " bytes\ntexts: no difference\n";
 } catch (const std::exception& e) {
     std::cout.flush();
     std::cerr << "texts: FAILED\n" << e.what() << "\n";
