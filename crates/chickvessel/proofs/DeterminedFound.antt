@@ -29,7 +29,7 @@ use Rattle.chickvessel.specs.Told.{Meaning, meant, Told}
 use Rattle.chickvessel.specs.Found.{AllLarge, LeastSize, tooLarge, least, Found}
 use Rattle.chickvessel.proofs.Limits.{work-loop}
 use Rattle.chickvessel.proofs.Determined.{root-sign}
-use Rattle.chickvessel.proofs.Working.{worked-alike, worked-answer, worked-passed}
+use Rattle.chickvessel.proofs.Working.{worked-either, worked-alike, worked-answer, worked-passed}
 use Rattle.chickvessel.proofs.DeterminedTold.{means-one}
 
 -- The least tree that an answer speaks of.
@@ -112,3 +112,8 @@ module _ (prefix loop list : List ℕ) (e i : ℕ) (work : List ℕ) where
   truth-find-agree left left′ t r a b zero =
       let none = worked-passed zero b in
       agree (work-loop (length prefix) (length loop) list e i (length work) none) (worked-answer none a) (worked-answer none b) zero
+
+  -- and where one is refused with 1 to 8, so is the other
+  pub truth-find-refused : (left left′ : List ℕ) (t r : Figures) → Told prefix loop list e i work left t → Found prefix loop list e i work left′ r
+      → (workRefusal (length prefix) (length loop) list e i (length work) ≡ 0 → ⊥) → t ≡ r
+  truth-find-refused left left′ t r a b some = worked-either (λ same _. same) (λ none _ _ _. absurd (some none)) a b

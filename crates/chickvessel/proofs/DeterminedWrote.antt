@@ -119,13 +119,13 @@ module _ (prefix loop list : List ℕ) (e i : ℕ) (work tree : List ℕ) where
     worked-either (λ same _. let number = ap (λ g. g .number) same in (λ x. sym number ∙ x, λ x. number ∙ x)) (λ _ _ x y. large-both x y) a (b .answer),
   )
 
-  -- The size found is the number of the words written.
+  -- What is written is the least tree, and the size found is the number of its words.
   pub size-written : (left left′ treeLeft : List ℕ) (r s : Figures) → Found prefix loop list e i work left r → Wrote-to left′ treeLeft s → s .number ≡ 0
-      → (words : List ℕ) × (treeLeft ≡ overwritten words tree) × (r .size ≡ length words)
+      → (words : List ℕ) × Least ones (scheduleFrame prefix loop) (formulaOf list e) i (map nodeOf words) × (treeLeft ≡ overwritten words tree) × (r .size ≡ length words)
   size-written left left′ treeLeft r s a b zero =
       let w = wrote-wording left′ treeLeft s b zero in
       let same = find-write-agree left left′ treeLeft r s a b .0 (λ x. omega (arith, x, zero)) in
-      (w .words, w .left-is, ap (λ g. g .size) same ∙ w .size-is)
+      (w .words, w .tree-of, w .left-is, ap (λ g. g .size) same ∙ w .size-is)
 
   -- The words at the front of the buffer, as many as the size says, are a tree that check accepts with the verdict given.
   pub written-checked : (left treeLeft : List ℕ) (s : Figures) → Wrote-to left treeLeft s → s .number ≡ 0

@@ -32,12 +32,14 @@ use Rattle.search.specs.Meant.{CellFor}
 use Rattle.search.specs.Filling.{Fills}
 use Rattle.search.specs.Clearing.{cleared}
 use Rattle.search.proofs.Clearing.{fills-cleared}
+use Rattle.writing.specs.Scans.{sizeIn}
+use Rattle.writing.specs.Writes.{cellSize}
 use Rattle.chickvessel.specs.Answers.{figures, figuresOf}
 use Rattle.chickvessel.specs.Accepted.{maxPosition, maxWords}
 use Rattle.chickvessel.specs.Worked.{workRefusal, Worked, refused, answered}
 use Rattle.chickvessel.specs.Told.{Meaning, meant, Told}
 use Rattle.chickvessel.specs.Found.{AllLarge, LeastSize, tooLarge, least, Found}
-use Rattle.chickvessel.specs.Looked.{verdictIn, sizeIn, toldBy, foundBy, Reads, Looked}
+use Rattle.chickvessel.specs.Looked.{verdictIn, toldBy, foundBy, Reads, Looked}
 use Rattle.chickvessel.specs.declared.Outcome.{Outcome}
 use Rattle.chickvessel.specs.declared.Look.{Look}
 use Rattle.chickvessel.specs.declared.Look.the-variants.{Refused, Cell}
@@ -59,35 +61,35 @@ module _ (cell : ℕ) where
   unfolding verdictIn
   verdict-violated e = simp e
 
-  pub size-holds : holdsIn cell ≡ true → proOf cell ≡ sizeIn cell
-  unfolding sizeIn
+  pub size-holds : holdsIn cell ≡ true → proOf cell ≡ cellSize cell
+  unfolding cellSize sizeIn
   size-holds e = simp e
 
-  pub size-violated : holdsIn cell ≡ false → conOf cell ≡ sizeIn cell
-  unfolding sizeIn
+  pub size-violated : holdsIn cell ≡ false → conOf cell ≡ cellSize cell
+  unfolding cellSize sizeIn
   size-violated e = simp e
 
   pub told-verdict : (v : Verdict) → v ≡ verdictIn cell → figures 0 0 (signOf v) 0 ≡ toldBy cell
   unfolding toldBy
   told-verdict v e = ap (λ w. figures 0 0 (signOf w) 0) e
 
-  pub found-none : (n : ℕ) → n ≡ sizeIn cell → maxWords < n → bare 11 ≡ foundBy cell
+  pub found-none : (n : ℕ) → n ≡ cellSize cell → maxWords < n → bare 11 ≡ foundBy cell
   unfolding foundBy
-  found-none n e lt = simp (lt-ltb maxWords (sizeIn cell) (omega (arith, lt, e)))
+  found-none n e lt = simp (lt-ltb maxWords (cellSize cell) (omega (arith, lt, e)))
 
-  pub found-least : (v : Verdict) (n : ℕ) → v ≡ verdictIn cell → n ≡ sizeIn cell → n ≤ maxWords → figures 0 0 (signOf v) n ≡ foundBy cell
+  pub found-least : (v : Verdict) (n : ℕ) → v ≡ verdictIn cell → n ≡ cellSize cell → n ≤ maxWords → figures 0 0 (signOf v) n ≡ foundBy cell
   unfolding foundBy
   found-least v n ev en le =
       (λ k. figures 0 0 (signOf (ev k)) (en k))
-      ∙ sym (ap (λ b. cond b (bare 11) (figures 0 0 (signOf (verdictIn cell)) (sizeIn cell))) (le-ltb maxWords (sizeIn cell) (omega (arith, le, en))))
+      ∙ sym (ap (λ b. cond b (bare 11) (figures 0 0 (signOf (verdictIn cell)) (cellSize cell))) (le-ltb maxWords (cellSize cell) (omega (arith, le, en))))
 
 module _ {frame : Frame} {f : Formula} {i cell : ℕ} (c : CellFor frame f i cell) where
   cell-means : Means (frame .letter) (claim f i (verdictIn cell))
   unfolding verdictIn
   cell-means = cond-elim (λ v. Means (frame .letter) (claim f i v)) (holdsIn cell) (λ e. c .truth .0 e) (λ e m. false≢true (sym e ∙ c .truth .1 m))
 
-  pub cell-size : Size frame (claim f i (verdictIn cell)) (sizeIn cell)
-  unfolding verdictIn sizeIn
+  pub cell-size : Size frame (claim f i (verdictIn cell)) (cellSize cell)
+  unfolding verdictIn cellSize sizeIn
   cell-size = by-verdict (holdsIn cell)
     where
       by-verdict : (b : Bool) → Size frame (claim f i (cond b Holds Violated)) (cond b (proOf cell) (conOf cell))
@@ -99,19 +101,19 @@ module _ {frame : Frame} {f : Formula} {i cell : ℕ} (c : CellFor frame f i cel
   cell-told = meant (verdictIn cell) cell-means
 
   -- a size above 4,095 is the cut: then every tree is large
-  pub cell-large : Lawful frame → maxWords < sizeIn cell → AllLarge frame f i
+  pub cell-large : Lawful frame → maxWords < cellSize cell → AllLarge frame f i
   cell-large law over =
-      let cut-size : sizeIn cell ≡ cutOff = omega (arith, over, cell-size .top) in
+      let cut-size : cellSize cell ≡ cutOff = omega (arith, over, cell-size .top) in
       record { large = λ s vs t. omega (arith, size-large law (subst (Size frame (claim f i (verdictIn cell))) cut-size cell-size) cell-means t) }
 
   -- else it is the least tree's
   cell-found : Lawful frame → {ws : List Node} → Least ones frame f i ws → LeastSize frame f i (foundBy cell)
   unfolding foundBy
   cell-found law {ws} l =
-      cond-elim (LeastSize frame f i) (ltb maxWords (sizeIn cell))
-      (λ over. tooLarge (cell-large law (ltb-true maxWords (sizeIn cell) over)))
+      cond-elim (LeastSize frame f i) (ltb maxWords (cellSize cell))
+      (λ over. tooLarge (cell-large law (ltb-true maxWords (cellSize cell) over)))
       (λ within.
-      let below : sizeIn cell < cutOff = omega (arith, ltb-false maxWords (sizeIn cell) within) in
+      let below : cellSize cell < cutOff = omega (arith, ltb-false maxWords (cellSize cell) within) in
       let verdict = size-verdict law cell-size below l in
       let size = size-least law cell-size below l in
       subst (LeastSize frame f i) (λ k. figures 0 0 (signOf (verdict k)) (size k)) (least l (omega (arith, size, below))))

@@ -24,36 +24,31 @@ use Rattle.search.specs.Filling.{FilledBelow, Limited}
 use Rattle.search.specs.Clearing.{cleared}
 use Rattle.search.proofs.Meant.{cell-one}
 use Rattle.search.proofs.Clearing.{fills-cleared}
-use Rattle.writing.specs.Scans
 use Rattle.writing.specs.Writes.{cellSize, Writable, put, Writes}
 use Rattle.chickvessel.specs.Answers.{figures}
 use Rattle.chickvessel.specs.Accepted.{maxPosition, maxWords}
 use Rattle.chickvessel.specs.Worked.{workRefusal, answered}
 use Rattle.chickvessel.specs.Wrote.{overwritten, Written, unwritten, tooShort, written, Wrote}
-use Rattle.chickvessel.specs.Looked.{verdictIn, sizeIn, Reads, WritesOut}
+use Rattle.chickvessel.specs.Looked.{verdictIn, Reads, WritesOut}
 use Rattle.chickvessel.proofs.Looking.{cell-size, cell-large}
-
-cell-sized : (cell : ℕ) → cellSize cell ≡ sizeIn cell
-unfolding cellSize sizeIn Scans.sizeIn
-cell-sized cell = refl
 
 put-front : (words tree : List ℕ) → put 0 words tree ≡ overwritten words tree
 unfolding put overwritten
 put-front words tree = ap (λ k. words ++ drop k tree) (zero-add (length words))
 
 module _ {frame : Frame} {f : Formula} {i cell : ℕ} (c : CellFor frame f i cell) where
-  pub out-large : Lawful frame → (tree : List ℕ) → maxWords < sizeIn cell → WritesOut frame f i tree tree (bare 11)
+  pub out-large : Lawful frame → (tree : List ℕ) → maxWords < cellSize cell → WritesOut frame f i tree tree (bare 11)
   out-large law tree over = record { answer = unwritten (cell-large c law over); kept = λ _. refl }
 
-  pub out-short : Lawful frame → {ws : List Node} → Least ones frame f i ws → (tree : List ℕ) → sizeIn cell ≤ maxWords → length tree < sizeIn cell → WritesOut frame f i tree tree (bare 12)
+  pub out-short : Lawful frame → {ws : List Node} → Least ones frame f i ws → (tree : List ℕ) → cellSize cell ≤ maxWords → length tree < cellSize cell → WritesOut frame f i tree tree (bare 12)
   out-short law l tree within short =
       let size = size-least law (cell-size c) (omega (arith, within)) l in
       record { answer = tooShort l (omega (arith, size, within)) (omega (arith, size, short)); kept = λ _. refl }
 
-  pub out-written : Lawful frame → {tree left : List ℕ} {next : ℕ} → Writes frame f i 0 tree left next → (n : ℕ) (v : Verdict) → n ≡ sizeIn cell → v ≡ verdictIn cell → n ≤ maxWords
+  pub out-written : Lawful frame → {tree left : List ℕ} {next : ℕ} → Writes frame f i 0 tree left next → (n : ℕ) (v : Verdict) → n ≡ cellSize cell → v ≡ verdictIn cell → n ≤ maxWords
       → WritesOut frame f i tree left (figures 0 0 (signOf v) n)
   out-written law {tree} {left} w n v en ev within =
-      let small : sizeIn cell < cutOff = omega (arith, within, en) in
+      let small : cellSize cell < cutOff = omega (arith, within, en) in
       let size : length (w .words) ≡ n = sym (length-map (w .words) nodeOf) ∙ size-least law (cell-size c) small (w .least) ∙ sym en in
       let verdict : w .least .verdict ≡ v = size-verdict law (cell-size c) small (w .least) ∙ sym ev in
       record {
@@ -64,11 +59,11 @@ module _ {frame : Frame} {f : Formula} {i cell : ℕ} (c : CellFor frame f i cel
 
 -- what the writer relies on
 pub out-writable : {prefix loop table : List ℕ} {e i cell : ℕ} {work : List ℕ} → Limited (length prefix) (length loop) table e (length work) → i ≤ maxPosition
-    → FilledBelow (scheduleFrame prefix loop) table (length loop) (suc e) work → CellFor (scheduleFrame prefix loop) (formulaOf table e) i cell → sizeIn cell ≤ maxWords
-    → Writable prefix loop table e i work × (cellSize (rowOf work e i) ≡ sizeIn cell)
+    → FilledBelow (scheduleFrame prefix loop) table (length loop) (suc e) work → CellFor (scheduleFrame prefix loop) (formulaOf table e) i cell → cellSize cell ≤ maxWords
+    → Writable prefix loop table e i work × (cellSize (rowOf work e i) ≡ cellSize cell)
 out-writable {e = e} {i} {cell} {work} lim near filled c within =
     let same = cell-one (filled .rows e i (omega arith) (omega (arith, near))) c in
-    let size : cellSize (rowOf work e i) ≡ sizeIn cell = ap cellSize same ∙ cell-sized cell in
+    let size : cellSize (rowOf work e i) ≡ cellSize cell = ap cellSize same in
     (record { limited = lim; filled = filled; near = omega (arith, near); small = omega (arith, size, within) }, size)
 
 -- the whole call, from the filling over the words that were read and the clearing after it

@@ -13,10 +13,11 @@ use Rattle.trees.specs.Frames.{scheduleFrame}
 use Rattle.trees.specs.Plans.{signOf}
 use Rattle.trees.specs.declared.Verdict.{Verdict}
 use Rattle.trees.specs.declared.Verdict.the-variants.{Holds, Violated}
-use Rattle.search.specs.Cells.{holdsIn, proOf, conOf}
+use Rattle.search.specs.Cells.{holdsIn}
 use Rattle.search.specs.Meant.{CellFor}
 use Rattle.search.specs.Filling.{Fills}
 use Rattle.search.specs.Clearing.{cleared}
+use Rattle.writing.specs.Writes.{cellSize}
 use Rattle.chickvessel.specs.Answers.{figures, figuresOf}
 use Rattle.chickvessel.specs.Accepted.{maxWords}
 use Rattle.chickvessel.specs.Worked.{workRefusal}
@@ -27,16 +28,12 @@ use Rattle.chickvessel.specs.declared.Look.the-variants.{Refused, Cell}
 unfoldable pub verdictIn : ℕ → Verdict
 verdictIn cell = cond (holdsIn cell) Holds Violated
 
--- The least size of the trees of that verdict, or 4,096.
-unfoldable pub sizeIn : ℕ → ℕ
-sizeIn cell = cond (holdsIn cell) (proOf cell) (conOf cell)
-
 -- The figures that truth and find give for a cell.
 unfoldable pub toldBy : ℕ → Figures
 toldBy cell = figures 0 0 (signOf (verdictIn cell)) 0
 
 unfoldable pub foundBy : ℕ → Figures
-foundBy cell = cond (ltb maxWords (sizeIn cell)) (bare 11) (figures 0 0 (signOf (verdictIn cell)) (sizeIn cell))
+foundBy cell = cond (ltb maxWords (cellSize cell)) (bare 11) (figures 0 0 (signOf (verdictIn cell)) (cellSize cell))
 
 -- The slice is filled up to the asked entry, and the cell of the asked position is read.
 pub record Reads (prefix loop table : List ℕ) (e i : ℕ) (found left : List ℕ) (cell : ℕ) : Type 0 where

@@ -16,13 +16,14 @@ ghost use Rattle.trees.specs.Plans.{signOf};
 ghost use Rattle.trees.specs.Walks.{Within};
 ghost use Rattle.search.specs.Meant.{CellFor};
 ghost use Rattle.search.specs.Filling.{FilledBelow, Limited};
+ghost use Rattle.writing.specs.Writes.{cellSize};
 ghost use Rattle.chickvessel.specs.Answers.{figures, figuresOf, answerOf};
 ghost use Rattle.chickvessel.specs.Accepted.{maxPosition, maxWords, Hands, orElse, farRefusal, questionRefusal};
 ghost use Rattle.chickvessel.specs.Checked.{Judgement, Checked};
 ghost use Rattle.chickvessel.specs.Worked.{workRefusal};
 ghost use Rattle.chickvessel.specs.Told.{Told};
 ghost use Rattle.chickvessel.specs.Found.{Found};
-ghost use Rattle.chickvessel.specs.Looked.{verdictIn, sizeIn, toldBy, foundBy, Reads, Looked, WritesOut};
+ghost use Rattle.chickvessel.specs.Looked.{verdictIn, toldBy, foundBy, Reads, Looked, WritesOut};
 ghost use Rattle.chickvessel.specs.Wrote.{Wrote};
 
 // The largest position that can be asked, and the most words of a tree.
@@ -270,7 +271,7 @@ fn verdict_in(cell: u16) -> Verdict
 }
 
 fn size_in(cell: u16) -> u32
-    ensures { λ r. ⌜ r ≡ sizeIn cell ⌝ }
+    ensures { λ r. ⌜ r ≡ cellSize cell ⌝ }
 {
     if search::holds(cell) {
         return search::pro(cell);

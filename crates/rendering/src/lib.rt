@@ -39,7 +39,7 @@ const SIZE: [u8; 5] = [115, 105, 122, 101, 61];
 const NODE: [u8; 5] = [110, 111, 100, 101, 61];
 
 // Writes a number's digits from a place on; answers the place behind them. It calls itself for the digits before the last.
-pub fn decimal(out: &mut [u8], at: usize, n: u32) -> usize
+fn decimal(out: &mut [u8], at: usize, n: u32) -> usize
     requires { ⌜ at + 10 ≤ length (now out) ⌝ }
     ensures { λ r. ⌜ Placed (λ ds. Decimal ds n) at (now (out .entry)) (now (out .exit)) r ⌝ }
 {

@@ -1,4 +1,4 @@
--- The work slice cleared: its first 16,384 numbers, the cells of 32 rows, are 0, and those past them are as found.
+-- The work slice cleared: its first 16,384 numbers are 0, and those past them are as found.
 use Prim.Native.Nat.{ℕ}
 use mathlib.Core.List.{List, _++_}
 use lib.ListN.{drop, replicate}

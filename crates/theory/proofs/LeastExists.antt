@@ -19,13 +19,13 @@ use Rattle.trees.specs.Frames.{scheduleFrame}
 use Rattle.trees.specs.Least.{Cost, costOf, Least}
 use Rattle.trees.specs.declared.Verdict.{Verdict}
 use Rattle.trees.specs.declared.Verdict.the-variants.{Holds, Violated}
+use Rattle.trees.proofs.Claims.{run-length}
 use Rattle.theory.specs.Frames.{Lawful}
 use Rattle.theory.specs.Means.{Means}
 use Rattle.theory.specs.Words.{Repeats}
 use Rattle.theory.specs.Repeating.{repeatFrame}
 use Rattle.theory.proofs.Words.{schedule-repeats}
 use Rattle.theory.proofs.Runs.{nothing, also, run-each}
-use Rattle.theory.proofs.Saves.{run-length}
 use Rattle.theory.proofs.Sound.{sound, repeats-lawful}
 use Rattle.theory.proofs.Decided.{decided}
 use Rattle.theory.proofs.Complete.{complete}

@@ -1,7 +1,7 @@
 -- What a tree saves against given nodes: its parts' savings add up, and a run cut short saves at least 1 a member.
 -- Assumes nothing.
-use Prim.Native.Nat.{ℕ, zero, suc, _+_, _≤_}
-use mathlib.Core.Path.{_≡_, refl, ap}
+use Prim.Native.Nat.{ℕ, _+_, _≤_}
+use mathlib.Core.Path.{_≡_, ap}
 use mathlib.Core.List.{List, [], _∷_, _++_}
 use native.Mathlib.Omega.{arith}
 use lib.ListN.{length}
@@ -11,6 +11,7 @@ use Rattle.trees.specs.Rules.{Frame, Claim, claim, run, Rule}
 use Rattle.trees.specs.Trees.{Tree, grown, Forest, none, more}
 use Rattle.trees.specs.Least.{Cost, costOf}
 use Rattle.trees.specs.declared.Verdict.{Verdict}
+use Rattle.trees.proofs.Claims.{run-length}
 use Rattle.trees.proofs.Order.{cost-append, cost-some}
 use Rattle.trees.proofs.Forests.{forest-parts, run-append}
 
@@ -33,10 +34,6 @@ module _ (cost : Cost) {frame : Frame} where
   pub forest-cost : {cs : List Claim} {ws : List Node} → Forest frame cs ws → length cs ≤ costOf cost ws
   forest-cost none = omega arith
   forest-cost (more {ws} {vs} t fs) = omega (arith, cost-append cost ws vs, tree-cost t, forest-cost fs)
-
-pub run-length : (f : Formula) (from n : ℕ) (s : Verdict) → length (run f from n s) ≡ n
-run-length f from zero s = refl
-run-length f from (suc n) s = ap suc (run-length f (suc from) n s)
 
 module _ {cost : Cost} {frame : Frame} where
   pub none-saves : AllSave cost frame 0 [] []
