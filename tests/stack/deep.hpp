@@ -13,6 +13,9 @@ struct group {
 // Questions on chains of 32 entries, as write calls with buffers that are long enough; not answered yet.
 std::vector<group> deep_questions();
 
+// Random calls of a shape, answered.
+group random_group(const std::string& shape, int calls);
+
 // Calls of check, and of truth, find or write, each with the reference's answer.
 std::vector<group> deep_checks();
 std::vector<group> deep_lent_calls(second::call what);

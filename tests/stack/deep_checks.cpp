@@ -42,20 +42,12 @@ group largest_tree() {
     return {"the largest tree over 30 nots", {c}};
 }
 
-// Random calls: trees of all sizes, whole and damaged.
-group random_checks(const std::string& shape) {
-    group g{"random, " + shape, {}};
-    random_source r(1);
-    for (int k = 0; k < 200; ++k) g.calls.push_back(case_of_shape(shape, r));
-    return g;
-}
-
 } // namespace
 
 std::vector<group> deep_checks() {
     std::vector<group> groups;
     for (const group& questions : deep_questions()) groups.push_back(with_least_trees(questions));
-    groups.insert(groups.end(), {largest_tree(), random_checks("valid-tree"), random_checks("damaged-tree"), random_checks("long-tree")});
+    groups.insert(groups.end(), {largest_tree(), random_group("valid-tree", 200), random_group("damaged-tree", 200), random_group("long-tree", 200)});
     return groups;
 }
 

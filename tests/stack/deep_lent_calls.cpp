@@ -5,23 +5,12 @@
 
 namespace stack {
 
-namespace {
-
 using namespace second;
-
-group random_questions(const std::string& shape) {
-    group g{"random, " + shape, {}};
-    random_source r(1);
-    for (int k = 0; k < 100; ++k) g.calls.push_back(case_of_shape(shape, r));
-    return g;
-}
-
-} // namespace
 
 std::vector<group> deep_lent_calls(call what) {
     std::vector<group> groups = deep_questions();
     for (const char* shape : {"full", "demanding", "heights-five", "size-by-halving", "size-by-lists", "lengths", "several-wrong"})
-        groups.push_back(random_questions(shape));
+        groups.push_back(random_group(shape, 100));
     for (group& g : groups)
         for (test_case& c : g.calls) {
             if (c.what == call::check) c.work = MIN_WORK; // several-wrong has checks too

@@ -70,8 +70,8 @@ void hold(const std::string& text, const std::string& right, random_source& r) {
     insist(out.as_found_from(size), "writes behind its output");
     insist(work.as_found_from(MIN_WORK) && tree.as_found_from(MAX_TREE), "writes outside the buffers that it is lent");
 
-    // 01: 1 to 8 leave both as found; after success and 11 work is 0; success writes the tree's words, 11 none. 13 and 14 are the text's: 01 says nothing.
-    if (right.starts_with("refused=13\n") || right == "refused=14\n") return;
+    // 01: 1 to 8 leave both as found; after success and 11 work is 0; success writes the tree's words, 11 none. 01 is silent about 13 and 14, which are the
+    // text's; the contract has both as found.
     if (right.starts_with("refused=") && right != "refused=11\n") {
         insist(work.as_found_from(0), "changes work in a refusal");
         insist(tree.as_found_from(0), "changes tree in a refusal");

@@ -19,7 +19,7 @@ namespace text {
 inline constexpr std::size_t OUT = 4095 * 19 + 40;
 
 // Holds the text function against the right output for a text. The buffers hold junk before, and lie between guards. Throws second::failure if the output is
-// another, if a guard or a byte behind the output has changed, or if work and tree are left otherwise than 01 says.
+// another, if a guard or a byte behind the output has changed, or if work and tree are left otherwise than the contract says.
 void hold(const std::string& text, const std::string& right, second::random_source& r);
 
 } // namespace text
