@@ -5,6 +5,7 @@ use schedule::Made;
 use schedule::Schedule;
 use trees::Step;
 use trees::Verdict;
+use trees::sign_of;
 ghost use mathlib.Core.Path.{_≡_};
 ghost use mathlib.Core.Bool.{true, false};
 ghost use Prim.Native.Nat.{suc, _≤_, _<_};
@@ -12,7 +13,6 @@ ghost use lib.ListN.{length, take};
 ghost use Rattle.rules.specs.Tables.{formulaOf, readRefusal, tableOf};
 ghost use Rattle.rules.specs.Asked.{askRefusal};
 ghost use Rattle.trees.specs.Frames.{scheduleFrame};
-ghost use Rattle.trees.specs.Plans.{signOf};
 ghost use Rattle.trees.specs.Walks.{Within};
 ghost use Rattle.search.specs.Meant.{CellFor};
 ghost use Rattle.search.specs.Filling.{FilledBelow, Limited};
@@ -405,15 +405,6 @@ fn of_figures(number: u32, place: u32, verdict: u32, size: u32) -> Answer
     }
 }
 
-fn verdict_figure(verdict: Verdict) -> u32
-    ensures { λ r. ⌜ r ≡ signOf verdict ⌝ }
-{
-    match verdict {
-        Verdict::Holds => 1,
-        Verdict::Violated => 2,
-    }
-}
-
 // The four figures of an outcome: the one place where a case becomes numbers.
 pub fn answer_of(outcome: Outcome) -> Answer
     ensures { λ r. ⌜ answerOf r ≡ figuresOf outcome ⌝ }
@@ -431,7 +422,7 @@ pub fn answer_of(outcome: Outcome) -> Answer
         Outcome::LongTree => of_figures(10, 0, 0, 0),
         Outcome::TooLarge => of_figures(11, 0, 0, 0),
         Outcome::ShortTree => of_figures(12, 0, 0, 0),
-        Outcome::Judged(verdict, size) => of_figures(0, 0, verdict_figure(verdict), size),
+        Outcome::Judged(verdict, size) => of_figures(0, 0, sign_of(verdict), size),
     }
 }
 

@@ -65,7 +65,8 @@ pub struct Part {
     pub position: usize,
 }
 
-fn sign_of(verdict: Verdict) -> u32
+// The figure of a verdict: 1 holds, 2 violated.
+pub fn sign_of(verdict: Verdict) -> u32
     ensures { λ r. ⌜ r ≡ signOf verdict ⌝ }
 {
     match verdict {

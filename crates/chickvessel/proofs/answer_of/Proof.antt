@@ -81,8 +81,8 @@ of-figures-requires-12 c κs = search needs
 enum-known-outcome-2 : tie.Need-enum-known-outcome-2
 enum-known-outcome-2 c = search needs
 
-verdict-figure-requires : tie.Need-verdict-figure-requires
-verdict-figure-requires c κs = search needs
+sign-of-requires : tie.Need-sign-of-requires
+sign-of-requires c κs = search needs
 
 of-figures-requires-13 : tie.Need-of-figures-requires-13
 of-figures-requires-13 c κs = search needs
@@ -126,7 +126,7 @@ returns-12 c = c .of-figures12 .ensures ∙ ap figuresOf (sym (c .before .enum-t
 returns-13 : tie.Need-returns-13
 returns-13 c =
     let known = c .before .before .before in
-    c .of-figures13 .ensures ∙ ap (λ v. figures 0 0 v (known .outcome2 .given .0 .1 .0)) (c .before .verdict-figure .ensures) ∙ ap figuresOf (sym (known .outcome2 .given .1))
+    c .of-figures13 .ensures ∙ ap (λ v. figures 0 0 v (known .outcome2 .given .0 .1 .0)) (c .before .sign-of .ensures) ∙ ap figuresOf (sym (known .outcome2 .given .1))
 
 pub answer-of-spec : {M : Type 1} → statement M
 answer-of-spec =
@@ -157,7 +157,7 @@ answer-of-spec =
     enum-told-11
     of-figures-requires-12
     enum-known-outcome-2
-    verdict-figure-requires
+    sign-of-requires
     of-figures-requires-13
     returns
     returns-2
