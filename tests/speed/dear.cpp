@@ -8,7 +8,6 @@ namespace speed {
 namespace {
 
 using namespace second;
-using list = std::vector<std::uint32_t>;
 
 // Entries 2 to 31, by turns an until and another kind, each over the one before it and an atom that leaves the verdict to that. Where the heights
 // would pass 5, and at a last place near the end, they start from an atom again, so that the last trees are large but not too large.
@@ -43,38 +42,29 @@ struct named_table {
     std::size_t position; // where it is asked
 };
 
-// The table's last entry; the letters are still to come.
-test_case question(const list& table, std::size_t position) {
-    test_case c;
-    c.what = call::write, c.table = table, c.entry = table.size() - 1, c.position = position;
-    c.work = MIN_WORK, c.room = MAX_TREE;
-    return c;
-}
-
-test_case question(const pattern& p, std::size_t prefix, const named_table& t) {
-    test_case c = question(t.table, t.position);
-    for (std::size_t k = 0; k < MAX_LETTERS; ++k) (k < prefix ? c.prefix : c.loop).push_back(p.letter(k));
-    return c;
+list letters_of(const pattern& p) {
+    list letters;
+    for (std::size_t k = 0; k < MAX_LETTERS; ++k) letters.push_back(p.letter(k));
+    return letters;
 }
 
 } // namespace
 
-std::vector<dear_question> dear_questions() {
+std::vector<asked> dear_questions() {
     const named_table tables[] = {{"untils and pairs", table_of({OR, AND}, 28), 255}, {"untils and sinces", table_of({SINCE}, 30), 60}};
-    std::vector<dear_question> all;
+    std::vector<asked> all;
     for (const named_table& t : tables)
         for (const pattern& p : PATTERNS)
             for (std::size_t prefix : {0, 24})
-                all.push_back({t.name + "; " + p.name + "; prefix " + std::to_string(prefix), question(p, prefix, t)});
+                all.push_back({t.name + "; " + p.name + "; prefix " + std::to_string(prefix),
+                               question(t.table, letters_of(p), prefix, t.position)});
     return all;
 }
 
 test_case branching_question(std::size_t entries) {
     list table = {entry_word(ATOM, 0, 0), entry_word(AND, 0, 0)};
     while (table.size() < entries) table.push_back(entry_word(AND, table.size() - 1, table.size() - 2));
-    test_case c = question(table, 0);
-    c.loop = {0};
-    return c;
+    return question(table, {0}, 0, 0);
 }
 
 } // namespace speed

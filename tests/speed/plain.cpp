@@ -91,7 +91,7 @@ private:
 
 answer write(words prefix, words loop, words table, std::size_t entry, std::size_t position, std::span<std::uint16_t> work,
              std::span<std::uint32_t> tree) {
-    const question q(prefix, loop, table);
+    const question q(prefix, loop, table, position);
     fill(q, entry, work.data());
     const std::uint16_t cell = work[ROW * entry + position];
     const std::uint32_t size = cell % HOLDING;

@@ -71,7 +71,8 @@ void fill_until(const std::uint16_t* a, const std::uint16_t* b, std::size_t colu
 
 } // namespace
 
-question::question(words prefix, words loop, words table) : prefix(prefix), loop(loop) {
+question::question(words prefix, words loop, words table, std::size_t position)
+    : prefix(prefix), loop(loop), reach(std::max(prefix.size(), position + 1)) {
     for (std::size_t k = 0; k < table.size(); ++k) {
         const entry_fields e = entries[k] = entry_of(table[k]);
         past[k] = future[k] = 0;

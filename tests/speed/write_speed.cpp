@@ -1,83 +1,80 @@
-// Write on the dearest questions: the library, and the plain program in the same process.
+// Write on typical questions and on the dearest: the library, and the plain program beside it.
 #include "speed.hpp"
 
 #include "dear.hpp"
-#include "plain.hpp"
-#include "stopwatch.hpp"
-
-#include "library.hpp"
+#include "side_by_side.hpp"
+#include "typical.hpp"
 
 #include <algorithm>
+#include <array>
 #include <iomanip>
 #include <iostream>
-#include <stdexcept>
+#include <ranges>
 
 namespace speed {
 
 namespace {
 
-using second::test_case;
-
-using writer = second::answer(second::words, second::words, second::words, std::size_t, std::size_t, std::span<std::uint16_t>,
-                              std::span<std::uint32_t>);
-
-// A program with the buffers that it is lent, full of something at first.
-struct runner {
-    writer* write;
-    std::vector<std::uint16_t> work = std::vector<std::uint16_t>(second::MIN_WORK, 0x5555);
-    std::vector<std::uint32_t> tree = std::vector<std::uint32_t>(second::MAX_TREE, 0x5555);
-    double seconds = 1e9; // the least so far
-
-    second::answer run(const test_case& c) { return write(c.prefix, c.loop, c.table, c.entry, c.position, work, tree); }
-};
-
-struct row {
-    std::string name;
-    test_case c;
-    runner library{library::write}, plain{plain::write};
-    second::answer answer = {};
-
-    double ratio() const { return library.seconds / plain.seconds; }
-};
-
-// Both must answer the same and leave the same in their buffers, or one would be no yardstick for the other.
-void compare(row& r) {
-    r.answer = r.library.run(r.c);
-    if (r.answer != r.plain.run(r.c) || r.library.tree != r.plain.tree || r.library.work != r.plain.work)
-        throw std::runtime_error("the library and the plain program differ on\n" + line_of(r.c));
+// The times of the library and of the plain program, and their ratio.
+void print_times(double library, double plain) {
+    std::cout << std::setw(15) << library * 1e6 << std::setw(16) << plain * 1e6 << std::setw(23) << library / plain;
 }
 
-// In rounds, so that what else the machine has to do falls on all alike.
-void measure(std::vector<row>& rows) {
-    for (row& r : rows) compare(r);
-    for (int round = 0; round < 3; ++round)
-        for (row& r : rows)
-            for (runner* program : {&r.library, &r.plain})
-                program->seconds = std::min(program->seconds, seconds_of([&] { program->run(r.c); }));
+void print_rows(const group& g) {
+    std::cout << "write, " << g.name << "\n    words   microseconds   plain program   to the plain program\n";
+    for (const row& r : g.rows) {
+        std::cout << std::setw(9) << (r.answer.number == 0 ? std::to_string(r.answer.size) : "refused");
+        print_times(r.library.seconds, r.plain.seconds);
+        std::cout << "   " << r.name << "\n";
+    }
+}
+
+// The time of a program for a question of a group, on average.
+double mean(const group& g, runner row::*program) {
+    double all = 0;
+    for (const row& r : g.rows) all += (r.*program).seconds;
+    return all / double(g.rows.size());
+}
+
+// The ratio of all questions together, and between which the single ones lie.
+void print_group(const group& g) {
+    const auto [least, greatest] = std::ranges::minmax(g.rows | std::views::transform(&row::ratio));
+    std::cout << std::setw(13) << g.rows.size();
+    print_times(mean(g, &row::library), mean(g, &row::plain));
+    std::cout << std::setw(11) << least << std::setw(10) << greatest << "   " << g.name << "\n";
+}
+
+constexpr std::array<std::size_t, 5> POSITIONS = {0, 3, 16, 64, 255};
+
+// The same questions at the first of the positions and at the last.
+void print_growth(const group& first, const group& last) {
+    const auto growth = [&](runner row::*program) { return mean(last, program) / mean(first, program); };
+    std::cout << "    typical, time at " << POSITIONS.back() << " to time at " << POSITIONS.front() << ": the library "
+              << growth(&row::library) << ", the plain program " << growth(&row::plain) << "\n";
 }
 
 void print_filling() {
-    std::vector<row> rows;
-    for (const dear_question& asked : dear_questions()) rows.push_back({asked.name, asked.c});
-    measure(rows);
-    std::cout << "write, 48 letters, 32 entries, heights at 5, every second entry an until\n"
-              << "    words   microseconds   plain program   to the plain program\n";
-    double worst = 0, library_all = 0, plain_all = 0;
-    for (const row& r : rows) {
-        worst = std::max(worst, r.ratio()), library_all += r.library.seconds, plain_all += r.plain.seconds;
-        std::cout << std::setw(9) << (r.answer.number == 0 ? std::to_string(r.answer.size) : "refused") << std::setw(15) << r.library.seconds * 1e6
-                  << std::setw(16) << r.plain.seconds * 1e6 << std::setw(23) << r.ratio() << "   " << r.name << "\n";
-    }
-    std::cout << "    all together " << library_all / plain_all << " times the plain program, at most " << worst << " times\n";
+    std::vector<group> groups = {{"the smallest: 1 entry, 1 letter", smallest_questions()},
+                                 {"the dearest: 48 letters, 32 entries, heights at 5, every second entry an until", dear_questions()}};
+    const std::size_t typical = groups.size();
+    for (std::size_t position : POSITIONS)
+        groups.push_back({"typical: 6 entries, 8 letters, asked at " + std::to_string(position), typical_questions(position)});
+    measure(groups);
+    std::ranges::for_each(groups, print_rows);
+    std::cout << "write, these groups, a question on average\n"
+              << "    questions   microseconds   plain program   to the plain program   at least   at most\n";
+    std::ranges::for_each(groups, print_group);
+    print_growth(groups[typical], groups.back());
 }
 
 // The plain program works out all heights in one pass; 01 wants each worked out by following the parts down.
 void print_heights() {
-    std::vector<row> rows;
-    for (std::size_t entries : {8, 12, 16, 20, 24, 28, 32}) rows.push_back({std::to_string(entries), branching_question(entries)});
-    measure(rows);
-    std::cout << "write, and(k - 1, k - 2)\n    entries   microseconds   plain program\n";
-    for (const row& r : rows)
+    std::vector<asked> questions;
+    for (std::size_t entries : {8, 12, 16, 20, 24, 28, 32}) questions.push_back({std::to_string(entries), branching_question(entries)});
+    group g("and(k - 1, k - 2)", questions);
+    measure({&g, 1});
+    std::cout << "write, " << g.name << "\n    entries   microseconds   plain program\n";
+    for (const row& r : g.rows)
         std::cout << std::setw(11) << r.name << std::setw(15) << r.library.seconds * 1e6 << std::setw(16) << r.plain.seconds * 1e6 << "\n";
 }
 
