@@ -1,87 +1,46 @@
--- A question under several refusals: the first that is given decides, and where none is, the question is handed on.
+-- Tests one after the other, as the entry points make them: the first that fails shuts the gate.
 -- Assumes nothing.
-use mathlib.Core.Path.{_≡_, refl, sym, ap, subst, _∙_}
-use mathlib.Core.Bool.{true, false, cond, true≢false, false≢true}
-use mathlib.Core.List.{List}
-use Prim.Native.Nat.{ℕ, _-_, _<_, _≤_}
+use mathlib.Core.Path.{_≡_, subst}
+use mathlib.Core.Bool.{true, false, _&&_}
+use mathlib.Core.List.{List, _++_}
+use Prim.Native.Nat.{ℕ, _<_, _≤_}
 use native.Mathlib.Omega.{arith}
-use borrow.Author.Tests.{eq-eqb, ne-eqb, lt-ltb, le-ltb}
-use lib.Dec.{eqb}
-use lib.ListN.{length, take, replicate, length-append}
-use lib.Seq.{length-take-le, take-append-seam}
+use borrow.Author.Tests.{lt-ltb, le-ltb, le-leb, lt-leb}
+use lib.Dec.{leb, ltb}
 use Rattle.schedule.specs.Limits.{maxEntries}
-use Rattle.schedule.specs.Figures.{bare}
-use Rattle.schedule.specs.declared.Schedule.{Schedule}
-use Rattle.rules.specs.Tables.{readRefusal, tableOf, noTable, Reads}
-use Rattle.rules.specs.declared.Table.{Table}
-use Rattle.rules.specs.declared.Reading.{Reading}
-use Rattle.chickvessel.specs.Answers.{figuresOf}
-use Rattle.chickvessel.specs.Accepted.{Hands, orElse, farRefusal}
-use Rattle.chickvessel.specs.Worked.{workLength, shortRefusal}
-use Rattle.chickvessel.specs.declared.Accepted.{Accepted}
-use Rattle.chickvessel.specs.declared.Outcome.{Outcome}
+use Rattle.schedule.specs.Figures.{refusal}
+use Rattle.schedule.specs.Tests.{Test, AllPass, FirstFails}
+use Rattle.schedule.proofs.Tests.{fails-behind, passes-both}
+use Rattle.chickvessel.specs.Answers.{numberOf}
+use Rattle.chickvessel.specs.Looked.{Gates, shuts, lets-by}
+use Rattle.chickvessel.specs.declared.Gate.{Gate}
+use Rattle.chickvessel.specs.declared.Gate.the-variants.{Shut, Passed}
+use Rattle.chickvessel.specs.declared.Refusal.{Refusal}
 
-pub bare-number : {n m : ℕ} → bare n ≡ bare m → n ≡ m
-bare-number e = ap (λ f. f .number) e
+-- the number of entries: none, too many, or neither
+module _ (n : ℕ) where
+  pub count-none : n ≡ 0 → (ltb 0 n && leb n maxEntries) ≡ false
+  count-none e = simp (le-ltb 0 n (omega (arith, e)))
 
-pub far : (i : ℕ) → 255 < i → farRefusal i ≡ 7
-far i lt = simp (lt-ltb 255 i lt)
+  pub count-many : maxEntries < n → (ltb 0 n && leb n maxEntries) ≡ false
+  count-many lt = simp (lt-ltb 0 n (omega (arith, lt)), lt-leb n maxEntries lt)
 
-pub near : (i : ℕ) → i ≤ 255 → farRefusal i ≡ 0
-near i le = simp (le-ltb 255 i le)
+  pub count-passes : (n ≡ 0 → ⊥) → n ≤ maxEntries → (ltb 0 n && leb n maxEntries) ≡ true
+  count-passes some le = simp (lt-ltb 0 n (omega (arith, some)), le-leb n maxEntries le)
 
-pub short : (len : ℕ) → len < workLength → shortRefusal len ≡ 8
-short len lt = simp (lt-ltb len workLength lt)
+-- tests that pass, and others behind them
+pub gates-behind : {ts us : List Test} {gate : Gate} → AllPass ts → Gates us gate → Gates (ts ++ us) gate
+gates-behind ps (shuts f) = shuts (fails-behind ps f)
+gates-behind ps (lets-by qs) = lets-by (passes-both ps qs)
 
-pub enough : (len : ℕ) → workLength ≤ len → shortRefusal len ≡ 0
-enough len le = simp (le-ltb len workLength le)
+pub gates-passed : {ts : List Test} {gate : Gate} → gate ≡ Passed → Gates ts gate → AllPass ts
+gates-passed {ts} is g = all (subst (Gates ts) is g)
+  where
+    all : Gates ts Passed → AllPass ts
+    all (lets-by ps) = ps
 
-pub first-given : (n m : ℕ) → (n ≡ 0 → ⊥) → orElse n m ≡ n
-first-given n m some = simp (ne-eqb n 0 some)
-
-pub first-passes : (n m : ℕ) → n ≡ 0 → orElse n m ≡ m
-first-passes n m none = simp (eq-eqb n 0 none)
-
-module _ {lengths : Schedule} {table : Table} where
-  pub hands-refused : (n : ℕ) (a : Accepted) (o : Outcome) → a .passed ≡ false → a .outcome ≡ o → figuresOf o ≡ bare n → (n ≡ 0 → ⊥)
-      → Hands n lengths table a
-  hands-refused n a o p q f some = record {
-    refused = λ _. (ap figuresOf q ∙ f, some);
-    passes = λ t. absurd (true≢false (sym t ∙ p));
-  }
-
-  pub hands-same : (n : ℕ) (a : Accepted) (m : Schedule) → m ≡ lengths → Hands n m table a → Hands n lengths table a
-  hands-same n a m e h = subst (λ l. Hands n l table a) e h
-
-  pub hands-passed : (n : ℕ) (a : Accepted) → a .passed ≡ true → n ≡ 0 → a .lengths ≡ lengths → a .table ≡ table → Hands n lengths table a
-  hands-passed n a p none l t = record { refused = λ f. absurd (false≢true (sym f ∙ p)); passes = λ _. (none, l, t) }
-
-  pub hands-first : (n m k : ℕ) (a : Accepted) → n ≡ k → (k ≡ 0 → ⊥) → Hands k lengths table a → Hands (orElse n m) lengths table a
-  hands-first n m k a e some h =
-      subst (λ j. Hands j lengths table a) (sym (first-given n m (λ z. some (sym e ∙ z)) ∙ e)) h
-
-  pub hands-later : (n m : ℕ) (a : Accepted) → n ≡ 0 → Hands m lengths table a → Hands (orElse n m) lengths table a
-  hands-later n m a none h = subst (λ j. Hands j lengths table a) (sym (first-passes n m none)) h
-
-  -- a question that is judged already, under one refusal more
-  pub hands-still : (n m : ℕ) (a : Accepted) → a .passed ≡ false → Hands n lengths table a → Hands (orElse n m) lengths table a
-  hands-still n m a p h = hands-first n m n a refl (h .refused p .1) h
-
-  pub hands-on : (n m : ℕ) (a : Accepted) → a .passed ≡ true → m ≡ 0 → Hands n lengths table a → Hands (orElse n m) lengths table a
-  hands-on n m a p none h = let on = h .passes p in hands-passed (orElse n m) a p (first-passes n m (on .0) ∙ none) (on .1) (on .2)
-
--- a list that is read without refusal is the first part of its record
-pub table-read : (list : List ℕ) (r : Reading) → Reads list r → readRefusal list ≡ 0 → r .table ≡ tableOf list
-table-read list r h passed = h .table ∙ ap (λ n. cond (eqb n 0) (tableOf list) noTable) passed
-
-module _ (list : List ℕ) (t : Table) (read : t ≡ tableOf list) where
-  pub table-fits : t .len ≤ length (t .words)
-  table-fits =
-      subst (λ x. x .len ≤ length (x .words)) (sym read)
-      (omega (arith, length-append list (replicate (maxEntries - length list) 0)))
-
-  pub table-length : t .len ≡ length (take (t .len) (t .words))
-  table-length = sym (length-take-le (t .len) (t .words) table-fits)
-
-  pub table-words : take (t .len) (t .words) ≡ list
-  table-words = ap (λ x. take (x .len) (x .words)) read ∙ take-append-seam list (replicate (maxEntries - length list) 0)
+pub gates-first : {ts : List Test} {gate : Gate} {x : Refusal} → gate ≡ Shut x → Gates ts gate → FirstFails ts (refusal (numberOf x))
+gates-first {ts} {x = x} is g = first (subst (Gates ts) is g)
+  where
+    first : Gates ts (Shut x) → FirstFails ts (refusal (numberOf x))
+    first (shuts f) = f

@@ -2,46 +2,62 @@
 -- Assumes nothing.
 use mathlib.Core.Path.{_≡_, sym, subst, _∙_}
 use mathlib.Core.List.{List, [], _∷_, map}
-use Prim.Native.Nat.{ℕ, _+_, _-_, _<_, _≤_}
+use Prim.Native.Nat.{ℕ, _+_, _<_, _≤_}
 use native.Mathlib.Nat.{sub-zero, add-zero}
 use native.Mathlib.Omega.{arith}
+use borrow.Author.Tests.{le-leb, lt-leb}
 use lib.ListN.{length, getD, take, length-map, take-append-drop}
 use lib.Seq.{take-all, drop-cons, length-take-le}
-use Rattle.rules.specs.Formula.{Formula}
+use Rattle.schedule.specs.Tests.{AllPass, none, also, here}
+use Rattle.schedule.specs.Figures.{Figures, refusal}
+use Rattle.schedule.proofs.Tests.{fails-behind, passes-both}
 use Rattle.trees.specs.Nodes.{Node, nodeOf}
-use Rattle.trees.specs.Rules.{Frame, claim}
 use Rattle.trees.specs.Trees.{Tree}
 use Rattle.trees.specs.Place.{Breaks, missing, leftover}
-use Rattle.trees.specs.Plans.{signOf, claimedBy}
+use Rattle.trees.specs.Plans.{claimedBy}
 use Rattle.trees.specs.Walks.{Walks}
 use Rattle.trees.specs.declared.Verdict.{Verdict}
 use Rattle.trees.specs.declared.Step.the-variants.{Next, Bad}
 use Rattle.trees.proofs.Places.{breaks-past}
-use Rattle.chickvessel.specs.Answers.{figures}
-use Rattle.chickvessel.specs.Checked.{Judgement, valid, broken}
+use Rattle.chickvessel.specs.Answers.{brokenAt, verdictWith}
+use Rattle.chickvessel.specs.Questions.{Question, questionTests, frameIn, claimIn}
+use Rattle.chickvessel.specs.Checked.{maxWords, checkTests, Judgement, valid, broken, Checked, refused, judged}
 
-module _ (frame : Frame) (f : Formula) (i : ℕ) where
-  pub judged-none : (words : List ℕ) → length words ≡ 0 → Judgement frame f i words (figures 9 0 0 0)
-  judged-none [] e = broken 0 missing
-  judged-none (w ∷ words) e = absurd (omega arith)
+module _ (q : Question) (words : List ℕ) (passed : AllPass (questionTests q)) where
+  -- 10, past the refusals that come before
+  pub judged-long : maxWords < length words → Checked q words (refusal 10)
+  unfolding checkTests
+  judged-long lt = refused (fails-behind passed (here (lt-leb (length words) maxWords lt)))
 
-  module _ (words : List ℕ) (v : Verdict) (root : v ≡ claimedBy (getD words 0 0)) where
-    abbrev nodes : List Node
-    nodes = map nodeOf words
+  judged-words : length words ≤ maxWords → {r : Figures} → Judgement q words r → Checked q words r
+  unfolding checkTests
+  judged-words le j = judged (passes-both passed (also (le-leb (length words) maxWords le) none)) j
 
-    breaking : (p : ℕ) → Breaks frame (claim f i v ∷ []) nodes p → Judgement frame f i words (figures 9 p 0 0)
-    breaking p b = broken p (subst (λ s. Breaks frame (claim f i s ∷ []) nodes p) root b)
+  module _ (few : length words ≤ maxWords) where
+    pub judged-none : length words ≡ 0 → Checked q words (brokenAt 0)
+    judged-none e = judged-words few (empty words e)
+      where
+        empty : (ws : List ℕ) → length ws ≡ 0 → Judgement q ws (brokenAt 0)
+        empty [] e = broken 0 missing
+        empty (w ∷ ws) e = absurd (omega arith)
 
-    pub judged-bad : (p : ℕ) → Walks frame (claim f i v) nodes 0 (Bad p) → Judgement frame f i words (figures 9 p 0 0)
-    judged-bad p w = breaking p (subst (Breaks frame (claim f i v ∷ []) nodes) (sub-zero p) (w .2 []))
+    module _ (v : Verdict) (root : v ≡ claimedBy (getD words 0 0)) where
+      abbrev nodes : List Node
+      nodes = map nodeOf words
 
-    pub judged-over : (k : ℕ) → Walks frame (claim f i v) nodes 0 (Next k) → k < length words → Judgement frame f i words (figures 9 k 0 0)
-    judged-over k w over =
-        let more : k < length nodes = omega (arith, length-map words nodeOf) in
-        let rest = subst (λ ws. Breaks frame [] ws 0) (sym (drop-cons nodes k (nodeOf 0) more)) leftover in
-        let whole = subst (λ ws. Breaks frame (claim f i v ∷ []) ws (length (take k nodes) + 0)) (take-append-drop k nodes) (breaks-past (w .2) rest) in
-        breaking k (subst (Breaks frame (claim f i v ∷ []) nodes) (add-zero (length (take k nodes)) ∙ length-take-le k nodes (w .1)) whole)
+      breaking : (p : ℕ) → Breaks (frameIn q) (claimIn q v ∷ []) nodes p → Checked q words (brokenAt p)
+      breaking p b = judged-words few (broken p (subst (λ s. Breaks (frameIn q) (claimIn q s ∷ []) nodes p) root b))
 
-    pub judged-tree : (k : ℕ) → Walks frame (claim f i v) nodes 0 (Next k) → length words ≤ k → Judgement frame f i words (figures 0 0 (signOf v) 0)
-    judged-tree k w all =
-        valid v (subst (Tree frame (claim f i v)) (take-all k nodes (omega (arith, length-map words nodeOf))) (w .2))
+      pub judged-bad : (p : ℕ) → Walks (frameIn q) (claimIn q v) nodes 0 (Bad p) → Checked q words (brokenAt p)
+      judged-bad p w = breaking p (subst (Breaks (frameIn q) (claimIn q v ∷ []) nodes) (sub-zero p) (w .2 []))
+
+      pub judged-over : (k : ℕ) → Walks (frameIn q) (claimIn q v) nodes 0 (Next k) → k < length words → Checked q words (brokenAt k)
+      judged-over k w over =
+          let more : k < length nodes = omega (arith, length-map words nodeOf) in
+          let rest = subst (λ ws. Breaks (frameIn q) [] ws 0) (sym (drop-cons nodes k (nodeOf 0) more)) leftover in
+          let whole = subst (λ ws. Breaks (frameIn q) (claimIn q v ∷ []) ws (length (take k nodes) + 0)) (take-append-drop k nodes) (breaks-past (w .2) rest) in
+          breaking k (subst (Breaks (frameIn q) (claimIn q v ∷ []) nodes) (add-zero (length (take k nodes)) ∙ length-take-le k nodes (w .1)) whole)
+
+      pub judged-tree : (k : ℕ) → Walks (frameIn q) (claimIn q v) nodes 0 (Next k) → length words ≤ k → Checked q words (verdictWith v 0)
+      judged-tree k w all =
+          judged-words few (valid v (subst (Tree (frameIn q) (claimIn q v)) (take-all k nodes (omega (arith, length-map words nodeOf))) (w .2)))

@@ -1,11 +1,14 @@
 pub mod Accepting
 pub mod Limits
+pub mod Numbers
+pub mod Working
+pub mod Alike
 pub mod Judging
 pub mod Looking
 pub mod WritingOut
+pub mod Outcomes
 pub mod Determined
-pub mod Working
 pub mod DeterminedTold
 pub mod DeterminedFound
 pub mod DeterminedWrote
-pub mod Outcomes
+pub mod Ordered

@@ -1,4 +1,4 @@
--- What a cell answers: the verdict of the meaning, and the size of the least tree or that there is none small enough.
+-- What is read from a cell, and what truth and find answer from it.
 -- Assumes nothing.
 use mathlib.Core.Path.{_≡_, sym, ap, subst, _∙_}
 use mathlib.Core.Bool.{Bool, true, false, cond, false≢true}
@@ -8,48 +8,49 @@ use native.Mathlib.Omega.{arith}
 use borrow.Author.Tests.{lt-ltb, le-ltb, ltb-true, ltb-false}
 use lib.Dec.{ltb}
 use lib.ListN.{length, getD}
-use Rattle.schedule.specs.Figures.{Figures, bare}
-use Rattle.schedule.specs.Letters.{letterAt}
-use Rattle.rules.specs.Formula.{Formula}
-use Rattle.rules.specs.Tables.{formulaOf}
+use Rattle.schedule.specs.Figures.{Figures, refusal}
+use Rattle.schedule.specs.Tests.{AllPass}
 use Rattle.rules.proofs.Entries.{cond-elim}
 use Rattle.trees.specs.Nodes.{Node}
-use Rattle.trees.specs.Rules.{Frame, claim}
-use Rattle.trees.specs.Frames.{scheduleFrame}
-use Rattle.trees.specs.Least.{ones, Least}
-use Rattle.trees.specs.Plans.{signOf}
+use Rattle.trees.specs.Least.{ones}
 use Rattle.trees.specs.declared.Verdict.{Verdict}
 use Rattle.trees.specs.declared.Verdict.the-variants.{Holds, Violated}
-use Rattle.theory.specs.Costs.{cutOff}
+use Rattle.trees.proofs.Order.{cost-ones}
 use Rattle.theory.specs.Means.{Means}
-use Rattle.theory.specs.Sizes.{Size}
 use Rattle.theory.specs.Frames.{Lawful}
-use Rattle.theory.proofs.Sizes.{size-verdict, size-least, size-large}
+use Rattle.theory.specs.Costs.{cutOff}
+use Rattle.theory.specs.Prices.{Price}
 use Rattle.theory.proofs.Sound.{schedule-lawful}
+use Rattle.theory.proofs.Prices.{price-verdict, price-least, price-large}
 use Rattle.theory.proofs.LeastExists.{schedule-least-exists}
 use Rattle.search.specs.Cells.{holdsIn, proOf, conOf}
-use Rattle.search.specs.Meant.{CellFor}
-use Rattle.search.specs.Filling.{Fills}
+use Rattle.search.specs.Filling.{Fills, Limited, reachOf}
 use Rattle.search.specs.Clearing.{cleared}
 use Rattle.search.proofs.Clearing.{fills-cleared}
-use Rattle.writing.specs.Scans.{sizeIn}
-use Rattle.writing.specs.Writes.{cellSize}
-use Rattle.chickvessel.specs.Answers.{figures, figuresOf}
-use Rattle.chickvessel.specs.Accepted.{maxPosition, maxWords}
-use Rattle.chickvessel.specs.Worked.{workRefusal, Worked, refused, answered}
+use Rattle.writing.specs.Scans.{priceIn}
+use Rattle.writing.specs.Writes.{cellPrice}
+use Rattle.chickvessel.specs.Answers.{numberOf, verdictWith}
+use Rattle.chickvessel.specs.Questions.{Question, wordIn, frameIn, formulaIn, claimIn}
+use Rattle.chickvessel.specs.Checked.{maxWords}
+use Rattle.chickvessel.specs.Worked.{workTests, Worked, refused, answered}
 use Rattle.chickvessel.specs.Told.{Meaning, meant, Told}
-use Rattle.chickvessel.specs.Found.{AllLarge, LeastSize, tooLarge, least, Found}
-use Rattle.chickvessel.specs.Looked.{verdictIn, toldBy, foundBy, Reads, Looked}
-use Rattle.chickvessel.specs.declared.Outcome.{Outcome}
+use Rattle.chickvessel.specs.Found.{LeastIn, AllLarge, LeastSize, tooLarge, least, Found}
+use Rattle.chickvessel.specs.Looked.{verdictIn, toldBy, foundBy, CellIn, Reads, Looked, refuses, sees}
+use Rattle.chickvessel.specs.declared.Refusal.{Refusal}
 use Rattle.chickvessel.specs.declared.Look.{Look}
 use Rattle.chickvessel.specs.declared.Look.the-variants.{Refused, Cell}
 use Rattle.chickvessel.proofs.Limits.{work-loop}
 
 -- The asked position lies in the asked entry's row.
-pub reads-cell : {prefix loop table : List ℕ} {e i : ℕ} {found left : List ℕ}
-    → Fills (scheduleFrame prefix loop) table (length loop) (suc e) found left → i ≤ maxPosition
-    → Reads prefix loop table e i found left (getD left (e * 512 + i) 0)
-reads-cell {e = e} {i} fills near = record { fills = fills; cell-for = fills .filled .rows e i (omega arith) (omega arith) }
+pub reads-cell : (q : Question) {far : ℕ} {found left : List ℕ} → far ≡ reachOf (length (q .prefix)) (q .position)
+    → Fills ones (frameIn q) (q .table) far (length (q .loop)) (suc (q .entry)) found left
+    → Reads q found left (getD left (q .entry * 512 + q .position) 0)
+reads-cell q {found = found} {left} is fills =
+    let there = subst (λ n. Fills ones (frameIn q) (q .table) n (length (q .loop)) (suc (q .entry)) found left) is fills in
+    record { fills = there; cell-for = there .filled .rows (q .entry) (q .position) (omega arith) (omega arith) }
+
+pub limited-reach : {u v far reach : ℕ} {table : List ℕ} {e len : ℕ} → far ≡ reach → Limited u v reach table e len → Limited u v far table e len
+limited-reach {u} {v} {table = table} {e} {len} is lim = subst (λ n. Limited u v n table e len) (sym is) lim
 
 -- A law a return.
 module _ (cell : ℕ) where
@@ -61,89 +62,100 @@ module _ (cell : ℕ) where
   unfolding verdictIn
   verdict-violated e = simp e
 
-  pub size-holds : holdsIn cell ≡ true → proOf cell ≡ cellSize cell
-  unfolding cellSize sizeIn
-  size-holds e = simp e
+  pub price-holds : holdsIn cell ≡ true → proOf cell ≡ cellPrice cell
+  unfolding cellPrice priceIn
+  price-holds e = simp e
 
-  pub size-violated : holdsIn cell ≡ false → conOf cell ≡ cellSize cell
-  unfolding cellSize sizeIn
-  size-violated e = simp e
+  pub price-violated : holdsIn cell ≡ false → conOf cell ≡ cellPrice cell
+  unfolding cellPrice priceIn
+  price-violated e = simp e
 
-  pub told-verdict : (v : Verdict) → v ≡ verdictIn cell → figures 0 0 (signOf v) 0 ≡ toldBy cell
+  pub told-verdict : (v : Verdict) → v ≡ verdictIn cell → verdictWith v 0 ≡ toldBy cell
   unfolding toldBy
-  told-verdict v e = ap (λ w. figures 0 0 (signOf w) 0) e
+  told-verdict v e = ap (λ w. verdictWith w 0) e
 
-  pub found-none : (n : ℕ) → n ≡ cellSize cell → maxWords < n → bare 11 ≡ foundBy cell
+  pub found-none : (n : ℕ) → n ≡ cellPrice cell → maxWords < n → refusal 11 ≡ foundBy cell
   unfolding foundBy
-  found-none n e lt = simp (lt-ltb maxWords (cellSize cell) (omega (arith, lt, e)))
+  found-none n e lt = simp (lt-ltb maxWords (cellPrice cell) (omega (arith, lt, e)))
 
-  pub found-least : (v : Verdict) (n : ℕ) → v ≡ verdictIn cell → n ≡ cellSize cell → n ≤ maxWords → figures 0 0 (signOf v) n ≡ foundBy cell
+  pub found-least : (v : Verdict) (n : ℕ) → v ≡ verdictIn cell → n ≡ cellPrice cell → n ≤ maxWords → verdictWith v n ≡ foundBy cell
   unfolding foundBy
   found-least v n ev en le =
-      (λ k. figures 0 0 (signOf (ev k)) (en k))
-      ∙ sym (ap (λ b. cond b (bare 11) (figures 0 0 (signOf (verdictIn cell)) (cellSize cell))) (le-ltb maxWords (cellSize cell) (omega (arith, le, en))))
+      (λ k. verdictWith (ev k) (en k))
+      ∙ sym (ap (λ b. cond b (refusal 11) (verdictWith (verdictIn cell) (cellPrice cell))) (le-ltb maxWords (cellPrice cell) (omega (arith, le, en))))
 
-module _ {frame : Frame} {f : Formula} {i cell : ℕ} (c : CellFor frame f i cell) where
-  cell-means : Means (frame .letter) (claim f i (verdictIn cell))
+module _ (q : Question) {cell : ℕ} (c : CellIn q cell) where
+  cell-means : Means (wordIn q) (claimIn q (verdictIn cell))
   unfolding verdictIn
-  cell-means = cond-elim (λ v. Means (frame .letter) (claim f i v)) (holdsIn cell) (λ e. c .truth .0 e) (λ e m. false≢true (sym e ∙ c .truth .1 m))
+  cell-means = cond-elim (λ v. Means (wordIn q) (claimIn q v)) (holdsIn cell) (λ e. c .truth .0 e) (λ e m. false≢true (sym e ∙ c .truth .1 m))
 
-  pub cell-size : Size frame (claim f i (verdictIn cell)) (cellSize cell)
-  unfolding verdictIn cellSize sizeIn
-  cell-size = by-verdict (holdsIn cell)
+  pub cell-price : Price ones (frameIn q) (claimIn q (verdictIn cell)) (cellPrice cell)
+  unfolding verdictIn cellPrice priceIn
+  cell-price = by-verdict (holdsIn cell)
     where
-      by-verdict : (b : Bool) → Size frame (claim f i (cond b Holds Violated)) (cond b (proOf cell) (conOf cell))
+      by-verdict : (b : Bool) → Price ones (frameIn q) (claimIn q (cond b Holds Violated)) (cond b (proOf cell) (conOf cell))
       by-verdict true = c .pro
       by-verdict false = c .con
 
-  pub cell-told : Meaning (frame .letter) f i (toldBy cell)
+  cell-told : Meaning q (toldBy cell)
   unfolding toldBy
   cell-told = meant (verdictIn cell) cell-means
 
-  -- a size above 4,095 is the cut: then every tree is large
-  pub cell-large : Lawful frame → maxWords < cellSize cell → AllLarge frame f i
-  cell-large law over =
-      let cut-size : cellSize cell ≡ cutOff = omega (arith, over, cell-size .top) in
-      record { large = λ s vs t. omega (arith, size-large law (subst (Size frame (claim f i (verdictIn cell))) cut-size cell-size) cell-means t) }
+  module _ (some : 0 < length (q .loop)) where
+    law : Lawful (frameIn q)
+    law = schedule-lawful (q .prefix) (q .loop) some
 
-  -- else it is the least tree's
-  cell-found : Lawful frame → {ws : List Node} → Least ones frame f i ws → LeastSize frame f i (foundBy cell)
-  unfolding foundBy
-  cell-found law {ws} l =
-      cond-elim (LeastSize frame f i) (ltb maxWords (cellSize cell))
-      (λ over. tooLarge (cell-large law (ltb-true maxWords (cellSize cell) over)))
-      (λ within.
-      let below : cellSize cell < cutOff = omega (arith, ltb-false maxWords (cellSize cell) within) in
-      let verdict = size-verdict law cell-size below l in
-      let size = size-least law cell-size below l in
-      subst (LeastSize frame f i) (λ k. figures 0 0 (signOf (verdict k)) (size k)) (least l (omega (arith, size, below))))
+    -- a size above 4,095 is the cut: then every tree is large
+    pub cell-large : maxWords < cellPrice cell → AllLarge q
+    cell-large over =
+        let cut-size : cellPrice cell ≡ cutOff = omega (arith, over, cell-price .top) in
+        let large = subst (Price ones (frameIn q) (claimIn q (verdictIn cell))) cut-size cell-price in
+        record { large = λ s vs t. omega (arith, price-large law large cell-means t, cost-ones vs) }
 
-schedule-cell-found : (prefix loop : List ℕ) → 0 < length loop → {f : Formula} {i cell : ℕ}
-    → CellFor (scheduleFrame prefix loop) f i cell → LeastSize (scheduleFrame prefix loop) f i (foundBy cell)
-schedule-cell-found prefix loop some {f} {i} c =
-    cell-found c (schedule-lawful prefix loop some) (schedule-least-exists ones prefix loop some f i .1)
+    -- else it is the least tree's, and so is the verdict
+    module _ (within : cellPrice cell ≤ maxWords) {ws : List Node} (l : LeastIn q ws) where
+      below : cellPrice cell < cutOff
+      below = omega (arith, within)
 
--- What is looked up, from the filling over the words that were read and the clearing after it.
-pub looked-cell : (prefix loop list table : List ℕ) (e i : ℕ) (found left : List ℕ) {filled : List ℕ} {cell : ℕ}
-    → workRefusal (length prefix) (length loop) list e i (length found) ≡ 0 → table ≡ list
-    → Reads prefix loop table e i found filled cell → left ≡ cleared filled
-    → Looked prefix loop list e i found left (Cell cell)
-looked-cell prefix loop list table e i found left {cell = cell} none same reads clears =
-    (none, clears ∙ fills-cleared (reads .fills), subst (λ l. CellFor (scheduleFrame prefix loop) (formulaOf l e) i cell) same (reads .cell-for))
+      pub cell-long : length ws ≡ cellPrice cell
+      cell-long = sym (cost-ones ws) ∙ price-least law cell-price below l
+
+      pub cell-verdict : l .verdict ≡ verdictIn cell
+      cell-verdict = price-verdict law cell-price below l
+
+    cell-found : LeastSize q (foundBy cell)
+    unfolding foundBy
+    cell-found =
+        cond-elim (LeastSize q) (ltb maxWords (cellPrice cell))
+        (λ over. tooLarge (cell-large (ltb-true maxWords (cellPrice cell) over)))
+        (λ within.
+        let few = ltb-false maxWords (cellPrice cell) within in
+        let l = schedule-least-exists ones (q .prefix) (q .loop) some (formulaIn q) (q .position) .1 in
+        let verdict = cell-verdict few l in
+        let size = cell-long few l in
+        subst (LeastSize q) (λ k. verdictWith (verdict k) (size k)) (least l (omega (arith, size, few))))
+
+-- What is looked up, from the filling and the clearing after it.
+pub looked-cell : (q : Question) (found left : List ℕ) {filled : List ℕ} {cell : ℕ} → AllPass (workTests q (length found))
+    → Reads q found filled cell → left ≡ cleared filled → Looked q found left (Cell cell)
+looked-cell q found left passed reads clears = sees passed (clears ∙ fills-cleared (reads .fills)) (reads .cell-for)
 
 -- and the answers from there
-module _ {prefix loop list : List ℕ} {e i : ℕ} {found left : List ℕ} {look : Look} (looked : Looked prefix loop list e i found left look) where
-  pub looked-refused : {Answered : Figures → Type 0} {o : Outcome} → look ≡ Refused o → Worked prefix loop list e i found left Answered (figuresOf o)
-  looked-refused is = let l = subst (Looked prefix loop list e i found left) is looked in refused (l .0) (l .1) (l .2)
+module _ {q : Question} {found left : List ℕ} {look : Look} (looked : Looked q found left look) where
+  pub looked-refused : {Answered : Figures → Type 0} {x : Refusal} → look ≡ Refused x → Worked q found left Answered (refusal (numberOf x))
+  looked-refused {Answered} {x} is = by (subst (Looked q found left) is looked)
+    where
+      by : Looked q found left (Refused x) → Worked q found left Answered (refusal (numberOf x))
+      by (refuses f l) = refused f l
 
-  pub looked-told : {cell : ℕ} {r : Figures} → look ≡ Cell cell → r ≡ toldBy cell → Told prefix loop list e i found left r
-  looked-told is same =
-      let l = subst (Looked prefix loop list e i found left) is looked in
-      answered (l .0) (l .1) (subst (Meaning (letterAt prefix loop) (formulaOf list e) i) (sym same) (cell-told (l .2)))
+  pub looked-told : {cell : ℕ} {r : Figures} → look ≡ Cell cell → r ≡ toldBy cell → Told q found left r
+  looked-told {cell} {r} is same = by (subst (Looked q found left) is looked)
+    where
+      by : Looked q found left (Cell cell) → Told q found left r
+      by (sees ps l c) = answered ps l (subst (Meaning q) (sym same) (cell-told q c))
 
-  pub looked-found : {cell : ℕ} {r : Figures} → look ≡ Cell cell → r ≡ foundBy cell → Found prefix loop list e i found left r
-  looked-found is same =
-      let l = subst (Looked prefix loop list e i found left) is looked in
-      answered (l .0) (l .1)
-      (subst (LeastSize (scheduleFrame prefix loop) (formulaOf list e) i) (sym same)
-      (schedule-cell-found prefix loop (work-loop _ _ _ _ _ _ (l .0)) (l .2)))
+  pub looked-found : {cell : ℕ} {r : Figures} → look ≡ Cell cell → r ≡ foundBy cell → Found q found left r
+  looked-found {cell} {r} is same = by (subst (Looked q found left) is looked)
+    where
+      by : Looked q found left (Cell cell) → Found q found left r
+      by (sees ps l c) = answered ps l (subst (LeastSize q) (sym same) (cell-found q c (work-loop q (length found) ps)))

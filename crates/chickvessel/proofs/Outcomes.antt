@@ -1,45 +1,47 @@
--- An outcome is known by its four figures: so where two results have the same figures, they are the same case.
+-- An outcome is known by its figures: so where two results have the same figures, they are the same case.
 -- Assumes nothing.
 use mathlib.Core.Path.{_≡_, refl, sym, ap, _∙_}
 use mathlib.Core.Bool.{cond}
+use mathlib.Core.List.{List, [], _∷_}
+use Prim.Native.Nat.{ℕ}
 use lib.Dec.{eqb}
+use lib.ListN.{getD}
 use Rattle.schedule.specs.Figures.{Figures}
 use Rattle.trees.specs.declared.Verdict.the-variants.{Holds, Violated}
 use Rattle.chickvessel.specs.Answers.{figuresOf}
+use Rattle.chickvessel.specs.declared.Refusal.{Refusal}
+use Rattle.chickvessel.specs.declared.Refusal.the-variants.{EmptyLoop, TooLong, NoTable, BadEntry, TooHigh, NoEntry, TooFar}
+use Rattle.chickvessel.specs.declared.Refusal.the-variants.{ShortWork, LongTree, TooLarge, ShortTree}
 use Rattle.chickvessel.specs.declared.Outcome.{Outcome}
-use Rattle.chickvessel.specs.declared.Outcome.the-variants.{EmptyLoop, TooLong, NoTable, BadEntry, TooHigh, NoEntry, TooFar}
-use Rattle.chickvessel.specs.declared.Outcome.the-variants.{ShortWork, NotValid, LongTree, TooLarge, ShortTree, Judged}
+use Rattle.chickvessel.specs.declared.Outcome.the-variants.{Refused, NotValid, Judged}
 
--- the case of a number, by its figures
+-- The refusals by their numbers, from 1; 9 has a place and is none of them.
+abbrev numbered : List Refusal
+numbered =
+    EmptyLoop ∷ TooLong ∷ NoTable ∷ BadEntry ∷ TooHigh ∷ NoEntry ∷ TooFar ∷ ShortWork ∷ EmptyLoop ∷ LongTree ∷ TooLarge ∷ ShortTree ∷ []
+
+abbrev refusalOf : ℕ → Refusal
+refusalOf n = getD (EmptyLoop ∷ numbered) n EmptyLoop
+
+-- the case of figures
 abbrev caseOf : Figures → Outcome
 caseOf f =
-    let n = f .number in
-    cond (eqb n 0) (Judged (cond (eqb (f .verdict) 1) Holds Violated) (f .size))
-    (cond (eqb n 1) EmptyLoop
-    (cond (eqb n 2) TooLong
-    (cond (eqb n 3) NoTable
-    (cond (eqb n 4) BadEntry
-    (cond (eqb n 5) TooHigh
-    (cond (eqb n 6) NoEntry
-    (cond (eqb n 7) TooFar
-    (cond (eqb n 8) ShortWork
-    (cond (eqb n 9) (NotValid (f .place))
-    (cond (eqb n 10) LongTree
-    (cond (eqb n 11) TooLarge ShortTree)))))))))))
+    cond (eqb (f .number) 0) (Judged (cond (eqb (f .verdict) 1) Holds Violated) (f .size))
+    (cond (eqb (f .number) 9) (NotValid (f .place)) (Refused (refusalOf (f .number))))
 
 case-back : (o : Outcome) → caseOf (figuresOf o) ≡ o
-case-back EmptyLoop = refl
-case-back TooLong = refl
-case-back NoTable = refl
-case-back BadEntry = refl
-case-back TooHigh = refl
-case-back NoEntry = refl
-case-back TooFar = refl
-case-back ShortWork = refl
+case-back (Refused EmptyLoop) = refl
+case-back (Refused TooLong) = refl
+case-back (Refused NoTable) = refl
+case-back (Refused BadEntry) = refl
+case-back (Refused TooHigh) = refl
+case-back (Refused NoEntry) = refl
+case-back (Refused TooFar) = refl
+case-back (Refused ShortWork) = refl
+case-back (Refused LongTree) = refl
+case-back (Refused TooLarge) = refl
+case-back (Refused ShortTree) = refl
 case-back (NotValid p) = refl
-case-back LongTree = refl
-case-back TooLarge = refl
-case-back ShortTree = refl
 case-back (Judged Holds n) = refl
 case-back (Judged Violated n) = refl
 

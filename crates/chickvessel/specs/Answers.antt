@@ -1,31 +1,45 @@
--- The four figures of every answer, case by case.
+-- The figures of every answer, case by case.
 use Prim.Native.Nat.{ℕ}
-use Rattle.schedule.specs.Figures.{Figures, bare}
+use Rattle.schedule.specs.Figures.{Figures, refusal}
 use Rattle.trees.specs.Plans.{signOf}
+use Rattle.trees.specs.declared.Verdict.{Verdict}
 use Rattle.chickvessel.specs.declared.Answer.{Answer}
+use Rattle.chickvessel.specs.declared.Refusal.{Refusal}
+use Rattle.chickvessel.specs.declared.Refusal.the-variants.{EmptyLoop, TooLong, NoTable, BadEntry, TooHigh, NoEntry, TooFar}
+use Rattle.chickvessel.specs.declared.Refusal.the-variants.{ShortWork, LongTree, TooLarge, ShortTree}
 use Rattle.chickvessel.specs.declared.Outcome.{Outcome}
-use Rattle.chickvessel.specs.declared.Outcome.the-variants.{EmptyLoop, TooLong, NoTable, BadEntry, TooHigh, NoEntry, TooFar}
-use Rattle.chickvessel.specs.declared.Outcome.the-variants.{ShortWork, NotValid, LongTree, TooLarge, ShortTree, Judged}
+use Rattle.chickvessel.specs.declared.Outcome.the-variants.{Refused, NotValid, Judged}
 
-abbrev pub figures : ℕ → ℕ → ℕ → ℕ → Figures
-figures n p v s = record { number = n; place = p; verdict = v; size = s }
+-- Refusal 9, with the place where words break off from being a tree.
+abbrev pub brokenAt : ℕ → Figures
+brokenAt p = record { number = 9; place = p; verdict = 0; size = 0 }
 
--- A refusal has its number and, for 9, the place; success has the verdict (1 holds, 2 violated) and the size.
+-- No refusal: a verdict, 1 holds or 2 violated, and a size, 0 where none is given.
+abbrev pub verdictWith : Verdict → ℕ → Figures
+verdictWith v n = record { number = 0; place = 0; verdict = signOf v; size = n }
+
+-- The same figures with no size, as truth and check give them.
+abbrev pub unsized : Figures → Figures
+unsized r = record { number = r .number; place = r .place; verdict = r .verdict; size = 0 }
+
+abbrev pub numberOf : Refusal → ℕ
+numberOf EmptyLoop = 1
+numberOf TooLong = 2
+numberOf NoTable = 3
+numberOf BadEntry = 4
+numberOf TooHigh = 5
+numberOf NoEntry = 6
+numberOf TooFar = 7
+numberOf ShortWork = 8
+numberOf LongTree = 10
+numberOf TooLarge = 11
+numberOf ShortTree = 12
+
 abbrev pub figuresOf : Outcome → Figures
-figuresOf EmptyLoop = bare 1
-figuresOf TooLong = bare 2
-figuresOf NoTable = bare 3
-figuresOf BadEntry = bare 4
-figuresOf TooHigh = bare 5
-figuresOf NoEntry = bare 6
-figuresOf TooFar = bare 7
-figuresOf ShortWork = bare 8
-figuresOf (NotValid p) = figures 9 p 0 0
-figuresOf LongTree = bare 10
-figuresOf TooLarge = bare 11
-figuresOf ShortTree = bare 12
-figuresOf (Judged v s) = figures 0 0 (signOf v) s
+figuresOf (Refused x) = refusal (numberOf x)
+figuresOf (NotValid p) = brokenAt p
+figuresOf (Judged v n) = verdictWith v n
 
 -- The figures of an answer that has crossed.
 abbrev pub answerOf : Answer → Figures
-answerOf a = figures (a .number) (a .place) (a .verdict) (a .size)
+answerOf a = record { number = a .number; place = a .place; verdict = a .verdict; size = a .size }

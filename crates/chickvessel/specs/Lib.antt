@@ -1,5 +1,5 @@
 pub mod Answers
-pub mod Accepted
+pub mod Questions
 pub mod Checked
 pub mod Worked
 pub mod Told

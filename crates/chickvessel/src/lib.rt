@@ -1,30 +1,23 @@
-// The public entry points: what is asked is judged first, by one function for all of them, and every answer comes from one enum.
-use rules::Asked;
-use rules::Table;
+// The public entry points: what is asked is put to its tests first, in one order for all of them, and every answer comes from one enum.
 use schedule::Made;
 use schedule::Schedule;
 use trees::Step;
 use trees::Verdict;
 use trees::sign_of;
 ghost use mathlib.Core.Path.{_≡_};
-ghost use mathlib.Core.Bool.{true, false};
-ghost use Prim.Native.Nat.{suc, _≤_, _<_};
-ghost use lib.ListN.{length, take};
-ghost use Rattle.rules.specs.Tables.{formulaOf, readRefusal, tableOf};
-ghost use Rattle.rules.specs.Asked.{askRefusal};
-ghost use Rattle.trees.specs.Frames.{scheduleFrame};
-ghost use Rattle.trees.specs.Walks.{Within};
-ghost use Rattle.search.specs.Meant.{CellFor};
-ghost use Rattle.search.specs.Filling.{FilledBelow, Limited};
-ghost use Rattle.writing.specs.Writes.{cellSize};
-ghost use Rattle.chickvessel.specs.Answers.{figures, figuresOf, answerOf};
-ghost use Rattle.chickvessel.specs.Accepted.{maxPosition, maxWords, Hands, orElse, farRefusal, questionRefusal};
-ghost use Rattle.chickvessel.specs.Checked.{Judgement, Checked};
-ghost use Rattle.chickvessel.specs.Worked.{workRefusal};
+ghost use Prim.Native.Nat.{_≤_};
+ghost use lib.ListN.{length};
+ghost use Rattle.schedule.specs.Tests.{AllPass};
+ghost use Rattle.search.specs.Filling.{reachOf};
+ghost use Rattle.writing.specs.Writes.{cellPrice};
+ghost use Rattle.chickvessel.specs.Answers.{numberOf, figuresOf, answerOf};
+ghost use Rattle.chickvessel.specs.Questions.{question, maxPosition, tableTests, questionTests};
+ghost use Rattle.chickvessel.specs.Checked.{Checked};
+ghost use Rattle.chickvessel.specs.Worked.{lengthTest, workTests};
 ghost use Rattle.chickvessel.specs.Told.{Told};
 ghost use Rattle.chickvessel.specs.Found.{Found};
-ghost use Rattle.chickvessel.specs.Looked.{verdictIn, toldBy, foundBy, Reads, Looked, WritesOut};
 ghost use Rattle.chickvessel.specs.Wrote.{Wrote};
+ghost use Rattle.chickvessel.specs.Looked.{Gates, verdictIn, toldBy, foundBy, FilledIn, CellIn, Reads, Looked, WritesOut};
 
 // The largest position that can be asked, and the most words of a tree.
 const MAX_POSITION: usize = 255;
@@ -34,8 +27,8 @@ const MAX_WORDS: usize = 4095;
 // The least length of a work slice.
 const WORK_LENGTH: usize = 16384;
 
-// Every answer of every entry point: a refusal, or a verdict with a size.
-pub enum Outcome {
+// Every refusal but 9, which has a place.
+pub enum Refusal {
     EmptyLoop,
     TooLong,
     NoTable,
@@ -44,22 +37,19 @@ pub enum Outcome {
     NoEntry,
     TooFar,
     ShortWork,
-    NotValid(u32),
     LongTree,
     TooLarge,
     ShortTree,
+}
+
+// Every answer of every entry point: a refusal, the place where words are no tree, or a verdict with a size.
+pub enum Outcome {
+    Refused(Refusal),
+    NotValid(u32),
     Judged(Verdict, u32),
 }
 
-// What is handed on once the question is accepted: the lengths and the table. (They say nothing where it is refused.)
-pub struct Accepted {
-    pub passed: bool,
-    pub outcome: Outcome,
-    pub lengths: Schedule,
-    pub table: Table,
-}
-
-// The four figures of an answer, as they cross to C.
+// The figures of an answer, as they cross to C.
 #[repr(C)]
 pub struct Answer {
     pub number: u32,
@@ -68,97 +58,95 @@ pub struct Answer {
     pub size: u32,
 }
 
-fn refused(outcome: Outcome) -> Accepted
-    ensures { λ r. ⌜ (r .passed ≡ false) × (r .outcome ≡ outcome) ⌝ }
-{
-    Accepted {
-        passed: false,
-        outcome,
-        lengths: Schedule {
-            prefix: 0,
-            again: 0,
-        },
-        table: Table {
-            words: [0u32; Schedule::MAX_ENTRIES],
-            len: 0,
-        },
-    }
+// What tests answer: the first refusal that is earned, or none.
+pub enum Gate {
+    Shut(Refusal),
+    Passed,
 }
 
-// Refusal 7, or the question is accepted.
-fn accept_position(lengths: Schedule, table: Table, position: usize) -> Accepted
-    ensures { λ r. ⌜ Hands (farRefusal position) lengths table r ⌝ }
+// Refusals 3 to 7 in order, of a table and what is asked of it.
+fn accept_table(words: &[u32], entry: usize, position: usize) -> Gate
+    ensures { λ r. ⌜ Gates (tableTests (now (words .entry)) entry position) r ⌝ }
 {
+    if words.len() == 0 {
+        return Gate::Shut(Refusal::NoTable);
+    }
+    if Schedule::MAX_ENTRIES < words.len() {
+        return Gate::Shut(Refusal::NoTable);
+    }
+    if !rules::all_keep(words) {
+        return Gate::Shut(Refusal::BadEntry);
+    }
+    if !rules::all_low(words) {
+        return Gate::Shut(Refusal::TooHigh);
+    }
+    if words.len() <= entry {
+        return Gate::Shut(Refusal::NoEntry);
+    }
     if MAX_POSITION < position {
-        return refused(Outcome::TooFar);
+        return Gate::Shut(Refusal::TooFar);
     }
-    Accepted {
-        passed: true,
-        outcome: Outcome::TooFar, // says nothing: the question passed
-        lengths,
-        table,
-    }
+    Gate::Passed
 }
 
-// Refusals 5 and 6, then the position.
-fn accept_entry(lengths: Schedule, table: Table, entry: usize, position: usize) -> Accepted
-    requires { ⌜ table .len ≤ length (table .words) ⌝ }
-    ensures { λ r. ⌜ Hands (orElse (askRefusal (take (table .len) (table .words)) entry) (farRefusal position)) lengths table r ⌝ }
+// Refusals 1 to 7 in order: 1 and 2 by the constructor of the lengths.
+fn accept(prefix: &[u32], again: &[u32], words: &[u32], entry: usize, position: usize) -> Gate
+    ensures { λ r. ⌜ Gates (questionTests (question (now (prefix .entry)) (now (again .entry)) (now (words .entry)) entry position)) r ⌝ }
 {
-    let words = table.words;
-    let len = table.len;
-    match rules::ask(&words[..len], entry) {
-        Asked::TooHigh => refused(Outcome::TooHigh),
-        Asked::NoEntry => refused(Outcome::NoEntry),
-        Asked::Ready => accept_position(lengths, table, position),
+    match Schedule::new(prefix.len(), again.len()) {
+        Made::EmptyLoop => Gate::Shut(Refusal::EmptyLoop),
+        Made::TooLong => Gate::Shut(Refusal::TooLong),
+        Made::Ready(_) => accept_table(words, entry, position),
     }
 }
 
-// Refusals 3 and 4, then the entry.
-fn accept_table(lengths: Schedule, list: &[u32], entry: usize, position: usize) -> Accepted
-    ensures { λ r. ⌜ Hands (orElse (readRefusal (now (list .entry))) (orElse (askRefusal (now (list .entry)) entry) (farRefusal position)))
-        lengths (tableOf (now (list .entry))) r ⌝ }
+// Refusal 8.
+fn accept_length(work: usize) -> Gate
+    ensures { λ r. ⌜ Gates (lengthTest work) r ⌝ }
 {
-    let reading = rules::read(list);
-    let outcome = reading.outcome;
-    let table = reading.table;
-    match outcome {
-        rules::Outcome::Count => refused(Outcome::NoTable),
-        rules::Outcome::Kind => refused(Outcome::BadEntry),
-        rules::Outcome::Ready => accept_entry(lengths, table, entry, position),
+    if work < WORK_LENGTH {
+        return Gate::Shut(Refusal::ShortWork);
     }
+    Gate::Passed
 }
 
-// Refusals 1 to 7 in order, or the lengths and the table of a question that every entry point can go on with.
-fn accept(prefix: usize, again: usize, list: &[u32], entry: usize, position: usize) -> Accepted
-    ensures { λ r. ⌜ Hands (questionRefusal prefix again (now (list .entry)) entry position)
-        (record { prefix = prefix; again = again }) (tableOf (now (list .entry))) r ⌝ }
+// Refusals 1 to 8 in order, for the entry points that work in a lent slice.
+fn accept_work(
+    prefix: &[u32],
+    again: &[u32],
+    words: &[u32],
+    entry: usize,
+    position: usize,
+    work: usize,
+) -> Gate
+    ensures { λ r. ⌜ Gates (workTests (question (now (prefix .entry)) (now (again .entry)) (now (words .entry)) entry position) work) r ⌝ }
 {
-    match Schedule::new(prefix, again) {
-        Made::EmptyLoop => refused(Outcome::EmptyLoop),
-        Made::TooLong => refused(Outcome::TooLong),
-        Made::Ready(lengths) => accept_table(lengths, list, entry, position),
+    match accept(prefix, again, words, entry, position) {
+        Gate::Shut(refusal) => Gate::Shut(refusal),
+        Gate::Passed => accept_length(work),
     }
 }
 
-// Words that are judged: the verdict of a valid tree, or the place where they break off from being one.
+// Words that are judged: 10, the verdict of a valid tree, or the place where they break off from being one.
 fn judge<'a>(
     prefix: &'a [u32],
     again: &'a [u32],
-    table: &[u32],
+    words: &[u32],
     entry: usize,
     position: usize,
     tree: &[u32],
 ) -> Outcome
-    requires { ⌜ Within (length (now prefix)) (length (now again)) entry position × (length (now tree) ≤ maxWords) ⌝ }
-    ensures { λ r. ⌜ Judgement (scheduleFrame (now (prefix .entry)) (now (again .entry))) (formulaOf (now (table .entry)) entry) position
-        (now (tree .entry)) (figuresOf r) ⌝ }
+    requires { ⌜ AllPass (questionTests (question (now prefix) (now again) (now words) entry position)) ⌝ }
+    ensures { λ r. ⌜ Checked (question (now (prefix .entry)) (now (again .entry)) (now (words .entry)) entry position) (now (tree .entry)) (figuresOf r) ⌝ }
 {
+    if MAX_WORDS < tree.len() {
+        return Outcome::Refused(Refusal::LongTree);
+    }
     if tree.len() == 0 {
         return Outcome::NotValid(0);
     }
     let verdict = trees::claimed(tree[0]);
-    match trees::walk(prefix, again, table, tree, entry, position, verdict, 0) {
+    match trees::walk(prefix, again, words, tree, entry, position, verdict, 0) {
         Step::Bad(place) => Outcome::NotValid(place as u32),
         Step::Next(after) => {
             if after < tree.len() {
@@ -166,6 +154,23 @@ fn judge<'a>(
             }
             Outcome::Judged(verdict, 0)
         }
+    }
+}
+
+// Check, of the words of a table that is read.
+fn check_words<'a>(
+    prefix: &'a [u32],
+    again: &'a [u32],
+    words: &[u32],
+    entry: usize,
+    position: usize,
+    tree: &[u32],
+) -> Outcome
+    ensures { λ r. ⌜ Checked (question (now (prefix .entry)) (now (again .entry)) (now (words .entry)) entry position) (now (tree .entry)) (figuresOf r) ⌝ }
+{
+    match accept(prefix, again, words, entry, position) {
+        Gate::Shut(refusal) => Outcome::Refused(refusal),
+        Gate::Passed => judge(prefix, again, words, entry, position, tree),
     }
 }
 
@@ -178,41 +183,23 @@ pub fn check<'a>(
     position: usize,
     tree: &[u32],
 ) -> Outcome
-    ensures { λ r. ⌜ Checked (now (prefix .entry)) (now (again .entry)) (now (list .entry)) entry position (now (tree .entry)) (figuresOf r) ⌝ }
+    ensures { λ r. ⌜ Checked (question (now (prefix .entry)) (now (again .entry)) (now (list .entry)) entry position) (now (tree .entry)) (figuresOf r) ⌝ }
 {
-    let question = accept(prefix.len(), again.len(), list, entry, position);
-    if !question.passed {
-        return question.outcome;
-    }
-    if MAX_WORDS < tree.len() {
-        return Outcome::LongTree;
-    }
-    let table = question.table;
+    let table = rules::read(list);
     let words = table.words;
     let len = table.len;
-    judge(prefix, again, &words[..len], entry, position, tree)
+    check_words(prefix, again, &words[..len], entry, position, tree)
 }
 
-// Refusals 1 to 8 in order, for the entry points that work in a lent slice.
-fn accept_work(
-    prefix: usize,
-    again: usize,
-    list: &[u32],
-    entry: usize,
-    position: usize,
-    work: usize,
-) -> Accepted
-    ensures { λ r. ⌜ Hands (workRefusal prefix again (now (list .entry)) entry position work)
-        (record { prefix = prefix; again = again }) (tableOf (now (list .entry))) r ⌝ }
+// How far a question needs the columns: past the prefix and past the position.
+fn reach(prefix: usize, position: usize) -> usize
+    requires { ⌜ position ≤ maxPosition ⌝ }
+    ensures { λ r. ⌜ r ≡ reachOf prefix position ⌝ }
 {
-    let question = accept(prefix, again, list, entry, position);
-    if !question.passed {
-        return question;
+    if position < prefix {
+        return prefix;
     }
-    if work < WORK_LENGTH {
-        return refused(Outcome::ShortWork);
-    }
-    question
+    position + 1
 }
 
 // The slice filled up to the asked entry, and the cell of the asked position.
@@ -224,20 +211,40 @@ fn filled<'a>(
     entry: usize,
     position: usize,
 ) -> u16
-    requires { ⌜ Limited (length (now prefix)) (length (now again)) (now words) entry (length (now work)) × (position ≤ maxPosition) ⌝ }
-    ensures { λ r. ⌜ Reads (now (prefix .entry)) (now (again .entry)) (now (words .entry)) entry position (now (work .entry)) (now (work .exit)) r ⌝ }
+    requires { ⌜ AllPass (workTests (question (now prefix) (now again) (now words) entry position) (length (now work))) ⌝ }
+    ensures { λ r. ⌜ Reads (question (now (prefix .entry)) (now (again .entry)) (now (words .entry)) entry position) (now (work .entry)) (now (work .exit)) r ⌝ }
 {
-    search::fill(prefix, again, words, work, entry);
+    let far = reach(prefix.len(), position);
+    search::fill(prefix, again, words, work, entry, far);
     work[entry * 512 + position]
 }
 
 // What truth and find answer from: a refusal, or the cell of the question.
 pub enum Look {
-    Refused(Outcome),
+    Refused(Refusal),
     Cell(u16),
 }
 
 // One filling for one question, and the slice cleared again.
+fn look_words<'a>(
+    prefix: &'a [u32],
+    again: &'a [u32],
+    words: &[u32],
+    entry: usize,
+    position: usize,
+    work: &mut [u16],
+) -> Look
+    ensures { λ r. ⌜ Looked (question (now (prefix .entry)) (now (again .entry)) (now (words .entry)) entry position) (now (work .entry)) (now (work .exit)) r ⌝ }
+{
+    let gate = accept_work(prefix, again, words, entry, position, work.len());
+    if let Gate::Shut(refusal) = gate {
+        return Look::Refused(refusal);
+    }
+    let cell = filled(prefix, again, words, work, entry, position);
+    search::clear(work);
+    Look::Cell(cell)
+}
+
 fn look_up<'a>(
     prefix: &'a [u32],
     again: &'a [u32],
@@ -246,19 +253,12 @@ fn look_up<'a>(
     position: usize,
     work: &mut [u16],
 ) -> Look
-    ensures { λ r. ⌜ Looked (now (prefix .entry)) (now (again .entry)) (now (list .entry)) entry position (now (work .entry)) (now (work .exit)) r ⌝ }
+    ensures { λ r. ⌜ Looked (question (now (prefix .entry)) (now (again .entry)) (now (list .entry)) entry position) (now (work .entry)) (now (work .exit)) r ⌝ }
 {
-    let question = accept_work(prefix.len(), again.len(), list, entry, position, work.len());
-    let outcome = question.outcome;
-    if !question.passed {
-        return Look::Refused(outcome);
-    }
-    let table = question.table;
+    let table = rules::read(list);
     let words = table.words;
     let len = table.len;
-    let cell = filled(prefix, again, &words[..len], work, entry, position);
-    search::clear(work);
-    Look::Cell(cell)
+    look_words(prefix, again, &words[..len], entry, position, work)
 }
 
 fn verdict_in(cell: u16) -> Verdict
@@ -270,8 +270,9 @@ fn verdict_in(cell: u16) -> Verdict
     Verdict::Violated
 }
 
-fn size_in(cell: u16) -> u32
-    ensures { λ r. ⌜ r ≡ cellSize cell ⌝ }
+// What the least tree costs.
+fn price_in(cell: u16) -> u32
+    ensures { λ r. ⌜ r ≡ cellPrice cell ⌝ }
 {
     if search::holds(cell) {
         return search::pro(cell);
@@ -285,13 +286,13 @@ fn told_by(cell: u16) -> Outcome
     Outcome::Judged(verdict_in(cell), 0)
 }
 
-// 11, or the least size.
+// 11, or the least size: each node costs 1, so it is the price.
 fn found_by(cell: u16) -> Outcome
     ensures { λ r. ⌜ figuresOf r ≡ foundBy cell ⌝ }
 {
-    let size = size_in(cell);
+    let size = price_in(cell);
     if MAX_WORDS < size as usize {
-        return Outcome::TooLarge;
+        return Outcome::Refused(Refusal::TooLarge);
     }
     Outcome::Judged(verdict_in(cell), size)
 }
@@ -305,10 +306,10 @@ pub fn truth<'a>(
     position: usize,
     work: &mut [u16],
 ) -> Outcome
-    ensures { λ r. ⌜ Told (now (prefix .entry)) (now (again .entry)) (now (list .entry)) entry position (now (work .entry)) (now (work .exit)) (figuresOf r) ⌝ }
+    ensures { λ r. ⌜ Told (question (now (prefix .entry)) (now (again .entry)) (now (list .entry)) entry position) (now (work .entry)) (now (work .exit)) (figuresOf r) ⌝ }
 {
     match look_up(prefix, again, list, entry, position, work) {
-        Look::Refused(outcome) => outcome,
+        Look::Refused(refusal) => Outcome::Refused(refusal),
         Look::Cell(cell) => told_by(cell),
     }
 }
@@ -322,10 +323,10 @@ pub fn find<'a>(
     position: usize,
     work: &mut [u16],
 ) -> Outcome
-    ensures { λ r. ⌜ Found (now (prefix .entry)) (now (again .entry)) (now (list .entry)) entry position (now (work .entry)) (now (work .exit)) (figuresOf r) ⌝ }
+    ensures { λ r. ⌜ Found (question (now (prefix .entry)) (now (again .entry)) (now (list .entry)) entry position) (now (work .entry)) (now (work .exit)) (figuresOf r) ⌝ }
 {
     match look_up(prefix, again, list, entry, position, work) {
-        Look::Refused(outcome) => outcome,
+        Look::Refused(refusal) => Outcome::Refused(refusal),
         Look::Cell(cell) => found_by(cell),
     }
 }
@@ -341,21 +342,43 @@ fn write_out<'a>(
     position: usize,
     cell: u16,
 ) -> Outcome
-    requires { ⌜ Limited (length (now prefix)) (length (now again)) (now words) entry (length (now work)) × (position ≤ maxPosition)
-        × FilledBelow (scheduleFrame (now prefix) (now again)) (now words) (length (now again)) (suc entry) (now work)
-        × CellFor (scheduleFrame (now prefix) (now again)) (formulaOf (now words) entry) position cell ⌝ }
-    ensures { λ r. ⌜ WritesOut (scheduleFrame (now (prefix .entry)) (now (again .entry))) (formulaOf (now (words .entry)) entry) position
-        (now (tree .entry)) (now (tree .exit)) (figuresOf r) ⌝ }
+    requires { ⌜ AllPass (workTests (question (now prefix) (now again) (now words) entry position) (length (now work)))
+        × FilledIn (question (now prefix) (now again) (now words) entry position) (now work)
+        × CellIn (question (now prefix) (now again) (now words) entry position) cell ⌝ }
+    ensures { λ r. ⌜ WritesOut (question (now (prefix .entry)) (now (again .entry)) (now (words .entry)) entry position) (now (tree .entry)) (now (tree .exit)) (figuresOf r) ⌝ }
 {
-    let size = size_in(cell);
+    let size = price_in(cell);
     if size as usize > MAX_WORDS {
-        return Outcome::TooLarge;
+        return Outcome::Refused(Refusal::TooLarge);
     }
     if tree.len() < size as usize {
-        return Outcome::ShortTree;
+        return Outcome::Refused(Refusal::ShortTree);
     }
     writing::write(prefix, again, words, work, tree, entry, position, 0);
     Outcome::Judged(verdict_in(cell), size)
+}
+
+// Write, of the words of a table that is read.
+fn write_words<'a>(
+    prefix: &'a [u32],
+    again: &'a [u32],
+    words: &[u32],
+    entry: usize,
+    position: usize,
+    work: &mut [u16],
+    tree: &mut [u32],
+) -> Outcome
+    ensures { λ r. ⌜ Wrote (question (now (prefix .entry)) (now (again .entry)) (now (words .entry)) entry position) (now (work .entry)) (now (work .exit))
+        (now (tree .entry)) (now (tree .exit)) (figuresOf r) ⌝ }
+{
+    let gate = accept_work(prefix, again, words, entry, position, work.len());
+    if let Gate::Shut(refusal) = gate {
+        return Outcome::Refused(refusal);
+    }
+    let cell = filled(prefix, again, words, work, entry, position);
+    let outcome = write_out(prefix, again, words, work, tree, entry, position, cell);
+    search::clear(work);
+    outcome
 }
 
 // The words of the least tree for an entry of a table at a position of a schedule.
@@ -368,61 +391,57 @@ pub fn write<'a>(
     work: &mut [u16],
     tree: &mut [u32],
 ) -> Outcome
-    ensures { λ r. ⌜ Wrote (now (prefix .entry)) (now (again .entry)) (now (list .entry)) entry position (now (work .entry)) (now (work .exit))
+    ensures { λ r. ⌜ Wrote (question (now (prefix .entry)) (now (again .entry)) (now (list .entry)) entry position) (now (work .entry)) (now (work .exit))
         (now (tree .entry)) (now (tree .exit)) (figuresOf r) ⌝ }
 {
-    let question = accept_work(prefix.len(), again.len(), list, entry, position, work.len());
-    let refusal = question.outcome;
-    if !question.passed {
-        return refusal;
-    }
-    let table = question.table;
+    let table = rules::read(list);
     let words = table.words;
     let len = table.len;
-    let cell = filled(prefix, again, &words[..len], work, entry, position);
-    let outcome = write_out(
-        prefix,
-        again,
-        &words[..len],
-        work,
-        tree,
-        entry,
-        position,
-        cell,
-    );
-    search::clear(work);
-    outcome
+    write_words(prefix, again, &words[..len], entry, position, work, tree)
 }
 
-fn of_figures(number: u32, place: u32, verdict: u32, size: u32) -> Answer
-    ensures { λ r. ⌜ answerOf r ≡ figures number place verdict size ⌝ }
+// The number of a refusal.
+fn number_of(refusal: Refusal) -> u32
+    ensures { λ r. ⌜ r ≡ numberOf refusal ⌝ }
 {
-    Answer {
-        number,
-        place,
-        verdict,
-        size,
+    match refusal {
+        Refusal::EmptyLoop => 1,
+        Refusal::TooLong => 2,
+        Refusal::NoTable => 3,
+        Refusal::BadEntry => 4,
+        Refusal::TooHigh => 5,
+        Refusal::NoEntry => 6,
+        Refusal::TooFar => 7,
+        Refusal::ShortWork => 8,
+        Refusal::LongTree => 10,
+        Refusal::TooLarge => 11,
+        Refusal::ShortTree => 12,
     }
 }
 
-// The four figures of an outcome: the one place where a case becomes numbers.
+// The figures of an outcome: the one place where a case becomes numbers.
 pub fn answer_of(outcome: Outcome) -> Answer
     ensures { λ r. ⌜ answerOf r ≡ figuresOf outcome ⌝ }
 {
     match outcome {
-        Outcome::EmptyLoop => of_figures(1, 0, 0, 0),
-        Outcome::TooLong => of_figures(2, 0, 0, 0),
-        Outcome::NoTable => of_figures(3, 0, 0, 0),
-        Outcome::BadEntry => of_figures(4, 0, 0, 0),
-        Outcome::TooHigh => of_figures(5, 0, 0, 0),
-        Outcome::NoEntry => of_figures(6, 0, 0, 0),
-        Outcome::TooFar => of_figures(7, 0, 0, 0),
-        Outcome::ShortWork => of_figures(8, 0, 0, 0),
-        Outcome::NotValid(place) => of_figures(9, place, 0, 0),
-        Outcome::LongTree => of_figures(10, 0, 0, 0),
-        Outcome::TooLarge => of_figures(11, 0, 0, 0),
-        Outcome::ShortTree => of_figures(12, 0, 0, 0),
-        Outcome::Judged(verdict, size) => of_figures(0, 0, sign_of(verdict), size),
+        Outcome::Refused(refusal) => Answer {
+            number: number_of(refusal),
+            place: 0,
+            verdict: 0,
+            size: 0,
+        },
+        Outcome::NotValid(place) => Answer {
+            number: 9,
+            place,
+            verdict: 0,
+            size: 0,
+        },
+        Outcome::Judged(verdict, size) => Answer {
+            number: 0,
+            place: 0,
+            verdict: sign_of(verdict),
+            size,
+        },
     }
 }
 
@@ -435,7 +454,7 @@ pub extern "C" fn chickvessel_check<'a>(
     position: usize,
     tree: &[u32],
 ) -> Answer
-    ensures { λ r. ⌜ Checked (now (prefix .entry)) (now (again .entry)) (now (table .entry)) entry position (now (tree .entry)) (answerOf r) ⌝ }
+    ensures { λ r. ⌜ Checked (question (now (prefix .entry)) (now (again .entry)) (now (table .entry)) entry position) (now (tree .entry)) (answerOf r) ⌝ }
 {
     answer_of(check(prefix, again, table, entry, position, tree))
 }
@@ -449,7 +468,7 @@ pub extern "C" fn chickvessel_truth<'a>(
     position: usize,
     work: &mut [u16],
 ) -> Answer
-    ensures { λ r. ⌜ Told (now (prefix .entry)) (now (again .entry)) (now (table .entry)) entry position (now (work .entry)) (now (work .exit)) (answerOf r) ⌝ }
+    ensures { λ r. ⌜ Told (question (now (prefix .entry)) (now (again .entry)) (now (table .entry)) entry position) (now (work .entry)) (now (work .exit)) (answerOf r) ⌝ }
 {
     answer_of(truth(prefix, again, table, entry, position, work))
 }
@@ -463,7 +482,7 @@ pub extern "C" fn chickvessel_find<'a>(
     position: usize,
     work: &mut [u16],
 ) -> Answer
-    ensures { λ r. ⌜ Found (now (prefix .entry)) (now (again .entry)) (now (table .entry)) entry position (now (work .entry)) (now (work .exit)) (answerOf r) ⌝ }
+    ensures { λ r. ⌜ Found (question (now (prefix .entry)) (now (again .entry)) (now (table .entry)) entry position) (now (work .entry)) (now (work .exit)) (answerOf r) ⌝ }
 {
     answer_of(find(prefix, again, table, entry, position, work))
 }
@@ -478,7 +497,7 @@ pub extern "C" fn chickvessel_write<'a>(
     work: &mut [u16],
     tree: &mut [u32],
 ) -> Answer
-    ensures { λ r. ⌜ Wrote (now (prefix .entry)) (now (again .entry)) (now (table .entry)) entry position (now (work .entry)) (now (work .exit))
+    ensures { λ r. ⌜ Wrote (question (now (prefix .entry)) (now (again .entry)) (now (table .entry)) entry position) (now (work .entry)) (now (work .exit))
         (now (tree .entry)) (now (tree .exit)) (answerOf r) ⌝ }
 {
     answer_of(write(prefix, again, table, entry, position, work, tree))

@@ -10,7 +10,10 @@ use Rattle.trees.specs.declared.Verdict.the-variants.{Holds, Violated}
 use Rattle.theory.specs.Words.{Repeats}
 use Rattle.theory.specs.Threshold.{threshold}
 use Rattle.theory.specs.Repeating.{repeatFrame}
-use Rattle.theory.specs.Sizes.{Size}
+use Rattle.theory.specs.Prices.{Price}
+use Rattle.trees.specs.Least.{Cost, ones}
+use Rattle.theory.proofs.Horizon.{ones-atoms}
+use Rattle.theory.proofs.Windowed.{repeats-windowed}
 use Rattle.theory.proofs.Sound.{repeats-lawful}
 use Rattle.search.specs.Cells.{proOf, conOf, cellOf, atomCell, notState, orState, andState, sinceCell, closed, untilCell}
 use Rattle.search.specs.Meant.{CellFor}
@@ -28,22 +31,22 @@ cellAt word u v (until f g) i =
     untilCell (cellAt word u v f) (cellAt word u v g) (max i (threshold u v g)) v (threshold u v g) i
 
 module _ {word : ℕ → ℕ} {u v : ℕ} (w : Repeats word u v) where
-  pub cell-computed : (f : Formula) (i : ℕ) → CellFor (repeatFrame word u v) f i (cellAt word u v f i)
+  pub cell-computed : (f : Formula) (i : ℕ) → CellFor ones (repeatFrame word u v) f i (cellAt word u v f i)
   unfolding atomCell sinceCell untilCell closed
-  cell-computed (atom a) i = atom-cell (repeats-lawful w) a
-  cell-computed (notᶠ f) i = not-cell (repeats-lawful w) (cell-computed f i)
-  cell-computed (orᶠ f g) i = or-cell (repeats-lawful w) (cell-computed f i) (cell-computed g i)
-  cell-computed (andᶠ f g) i = and-cell (repeats-lawful w) (cell-computed f i) (cell-computed g i)
+  cell-computed (atom a) i = atom-cell ones-atoms (repeats-lawful w) a refl
+  cell-computed (notᶠ f) i = not-cell ones-atoms (repeats-lawful w) (cell-computed f i)
+  cell-computed (orᶠ f g) i = or-cell ones-atoms (repeats-lawful w) (cell-computed f i) (cell-computed g i)
+  cell-computed (andᶠ f g) i = and-cell ones-atoms (repeats-lawful w) (cell-computed f i) (cell-computed g i)
   cell-computed (since f g) i =
-      since-cell (cellAt word u v f) (cellAt word u v g) (repeats-lawful w) i (λ k lt. cell-computed f k) (λ k lt. cell-computed g k)
+      since-cell ones-atoms (cellAt word u v f) (cellAt word u v g) (repeats-lawful w) i (λ k lt. cell-computed f k) (λ k lt. cell-computed g k)
   cell-computed (until f g) i =
-      until-cell w (cellAt word u v f) (cellAt word u v g) (λ k lt. cell-computed f k) (λ k lt. cell-computed g k) i _ (omega arith) refl _ refl
+      until-cell ones-atoms (repeats-windowed 0 w) (cellAt word u v f) (cellAt word u v g) (λ k lt. cell-computed f k) (λ k lt. cell-computed g k) i _ (omega arith) refl _ refl
 
 -- the size that a cell has for a verdict
-abbrev pub sizeIn : Verdict → ℕ → ℕ
-sizeIn Holds c = proOf c
-sizeIn Violated c = conOf c
+abbrev pub priceIn : Verdict → ℕ → ℕ
+priceIn Holds c = proOf c
+priceIn Violated c = conOf c
 
-pub cell-size : {frame : Frame} {f : Formula} {i c : ℕ} → CellFor frame f i c → (s : Verdict) → Size frame (claim f i s) (sizeIn s c)
-cell-size c Holds = c .pro
-cell-size c Violated = c .con
+pub cell-price : {cost : Cost} {frame : Frame} {f : Formula} {i c : ℕ} → CellFor cost frame f i c → (s : Verdict) → Price cost frame (claim f i s) (priceIn s c)
+cell-price c Holds = c .pro
+cell-price c Violated = c .con

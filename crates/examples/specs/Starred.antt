@@ -3,24 +3,16 @@ use Prim.Native.Nat.{ℕ, _+_, _*_}
 use mathlib.Core.Path.{_≡_}
 use mathlib.Core.List.{List, [], _∷_}
 use lib.ListN.{length}
-use Rattle.schedule.specs.Letters.{letterAt}
-use Rattle.rules.specs.Formula.{Formula}
-use Rattle.rules.specs.Tables.{formulaOf}
 use Rattle.trees.specs.Nodes.{Node}
-use Rattle.trees.specs.Rules.{claim}
-use Rattle.trees.specs.Frames.{scheduleFrame}
-use Rattle.trees.specs.Least.{ones, Least}
 use Rattle.trees.specs.declared.Verdict.{Verdict}
 use Rattle.trees.specs.declared.Verdict.the-variants.{Holds, Violated}
 use Rattle.theory.specs.Means.{Means}
+use Rattle.chickvessel.specs.Questions.{Question, question, wordIn, claimIn}
+use Rattle.chickvessel.specs.Found.{LeastIn}
 
--- A schedule with its table, the entry and position that are asked, and the verdict and the size of the least tree that were measured.
+-- What is asked, and the verdict and the size of the least tree that were measured.
 pub record Row : Type 0 where
-  pub prefix : List ℕ
-  pub loop : List ℕ
-  pub table : List ℕ
-  pub entry : ℕ
-  pub position : ℕ
+  pub asked : Question
   pub verdict : Verdict
   pub size : ℕ
 
@@ -53,10 +45,10 @@ tableB =
 
 -- A row of schedule A, and one of schedule B: entry, position, verdict, size.
 abbrev pub inA : ℕ → ℕ → Verdict → ℕ → Row
-inA e i s n = record { prefix = 1 ∷ []; loop = 4 ∷ 2 ∷ []; table = tableA; entry = e; position = i; verdict = s; size = n }
+inA e i s n = record { asked = question (1 ∷ []) (4 ∷ 2 ∷ []) tableA e i; verdict = s; size = n }
 
 abbrev pub inB : ℕ → ℕ → Verdict → ℕ → Row
-inB e i s n = record { prefix = []; loop = 1 ∷ []; table = tableB; entry = e; position = i; verdict = s; size = n }
+inB e i s n = record { asked = question [] (1 ∷ []) tableB e i; verdict = s; size = n }
 
 abbrev pub starred : List Row
 starred =
@@ -74,14 +66,11 @@ starred =
     ∷ inB 3 3 Violated 5
     ∷ []
 
-abbrev pub asked : Row → Formula
-asked row = formulaOf (row .table) (row .entry)
-
 -- The formula means the verdict there, and its least tree has that verdict and that many nodes.
 pub record Kept (row : Row) : Type 0 where
-  pub means : Means (letterAt (row .prefix) (row .loop)) (claim (asked row) (row .position) (row .verdict))
+  pub means : Means (wordIn (row .asked)) (claimIn (row .asked) (row .verdict))
   pub nodes : List Node
-  pub least : Least ones (scheduleFrame (row .prefix) (row .loop)) (asked row) (row .position) nodes
+  pub least : LeastIn (row .asked) nodes
   pub says : least .verdict ≡ row .verdict
   pub long : length nodes ≡ row .size
 

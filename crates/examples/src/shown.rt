@@ -1,5 +1,6 @@
 // What is printed: numbers, answers, and the words of trees.
 use chickvessel::Outcome;
+use chickvessel::answer_of;
 use libc::STDOUT_FILENO;
 use trees::Verdict;
 
@@ -16,9 +17,9 @@ pub fn number(n: u64) {
     io::print_decimal(STDOUT_FILENO, n);
 }
 
-fn refusal(n: u64) {
+fn refusal(n: u32) {
     text(b"refusal ");
-    number(n);
+    number(n as u64);
 }
 
 fn broken(place: u32) {
@@ -44,19 +45,10 @@ fn judged(told: Verdict, size: u32) {
 }
 
 pub fn outcome(outcome: Outcome) {
+    let answer = answer_of(outcome);
     match outcome {
-        Outcome::EmptyLoop => refusal(1),
-        Outcome::TooLong => refusal(2),
-        Outcome::NoTable => refusal(3),
-        Outcome::BadEntry => refusal(4),
-        Outcome::TooHigh => refusal(5),
-        Outcome::NoEntry => refusal(6),
-        Outcome::TooFar => refusal(7),
-        Outcome::ShortWork => refusal(8),
+        Outcome::Refused(_) => refusal(answer.number),
         Outcome::NotValid(place) => broken(place),
-        Outcome::LongTree => refusal(10),
-        Outcome::TooLarge => refusal(11),
-        Outcome::ShortTree => refusal(12),
         Outcome::Judged(told, size) => judged(told, size),
     }
 }

@@ -1,8 +1,9 @@
-// Tables of 32 entries, each built twice from the one before: read and their heights worked out at once.
+// Tables of 32 entries, each built twice from the one before: tested, and their heights worked out, at once.
+use crate::lists;
+use crate::shown;
 use crate::shown::number;
 use crate::shown::text;
-use rules::Asked;
-use rules::Outcome;
+use chickvessel::Outcome;
 use rules::Side;
 ghost use Prim.Native.Nat.{_<_};
 
@@ -19,40 +20,45 @@ fn doubled(kind: u32) -> [u32; 32]
     words
 }
 
-fn reading(list: &[u32]) {
-    let reading = rules::read(list);
-    let outcome = reading.outcome;
-    match outcome {
-        Outcome::Count => text(b" refusal 3\n"),
-        Outcome::Kind => text(b" refusal 4\n"),
-        Outcome::Ready => asking(list),
+// The heights of entry 31, where every entry keeps the kind table.
+fn heights(list: &[u32]) {
+    if list.len() == 0 {
+        return;
     }
+    if !rules::all_keep(list) {
+        return;
+    }
+    text(b" past ");
+    number(rules::height(list, 31, Side::Past) as u64);
+    text(b" future ");
+    number(rules::height(list, 31, Side::Future) as u64);
 }
 
-fn asking(words: &[u32]) {
-    text(b" past ");
-    number(rules::height(words, 31, Side::Past) as u64);
-    text(b" future ");
-    number(rules::height(words, 31, Side::Future) as u64);
-    match rules::ask(words, 31) {
-        Asked::TooHigh => text(b" refusal 5\n"),
-        Asked::NoEntry => text(b" refusal 6\n"),
-        Asked::Ready => text(b" can be asked\n"),
+// Whether entry 31 can be asked: check then finds that no word is no tree.
+fn asking(list: &[u32]) {
+    let none = [0u32; 0];
+    heights(list);
+    text(b" ");
+    let outcome = chickvessel::check(&none, &lists::B_LOOP, list, 31, 0, &none);
+    match outcome {
+        Outcome::NotValid(_) => text(b"can be asked"),
+        _ => shown::outcome(outcome),
     }
+    text(b"\n");
 }
 
 pub fn tables() {
     text(b"or twice over:");
-    reading(&doubled(2));
+    asking(&doubled(2));
     text(b"since twice over:");
-    reading(&doubled(4));
+    asking(&doubled(4));
     text(b"until twice over:");
-    reading(&doubled(5));
+    asking(&doubled(5));
     text(b"not with a right:");
-    reading(&doubled(1));
+    asking(&doubled(1));
     let none = [0u32; 1];
     text(b"no entry:");
-    reading(&none[..0]);
+    asking(&none[..0]);
     text(b"one entry:");
-    reading(&none);
+    asking(&none);
 }

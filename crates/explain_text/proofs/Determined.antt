@@ -5,6 +5,7 @@ use mathlib.Core.List.{List}
 use Prim.Native.Nat.{ℕ, _+_}
 use native.Mathlib.Omega.{arith}
 use lib.ListN.{length, take}
+use Rattle.chickvessel.specs.Questions.{question}
 use Rattle.chickvessel.specs.Wrote.{Wrote}
 use Rattle.chickvessel.proofs.DeterminedWrote.{write-one}
 use Rattle.writing.specs.Writes.{put}
@@ -33,10 +34,10 @@ module _ {text work tree : List ℕ} where
   output-one (answered s e i k r le x wr l) (wrong n le′ y w′ t′ l′) = absurd (whole-not-wrong x y)
   output-one {workLeft} {workLeft′} {treeLeft} {treeLeft′} {bytes} (answered s e i k r le x wr l) (answered s′ e′ i′ k′ r′ le′ y wr′ l′) =
       let whole = whole-one x y in
-      let here = subst (λ j. Wrote (s′ .prefix) (s′ .loop) (s′ .table) e′ j work workLeft tree treeLeft r) (whole .positions)
-      (subst (λ j. Wrote (s′ .prefix) (s′ .loop) (s′ .table) j i work workLeft tree treeLeft r) (whole .entries)
-      (subst (λ q. Wrote (q .prefix) (q .loop) (q .table) e i work workLeft tree treeLeft r) (whole .says) wr)) in
-      let one = write-one (s′ .prefix) (s′ .loop) (s′ .table) e′ i′ work tree workLeft workLeft′ treeLeft treeLeft′ r r′ here wr′ in
+      let asked : question (s .prefix) (s .loop) (s .table) e i ≡ question (s′ .prefix) (s′ .loop) (s′ .table) e′ i′ =
+      λ k. let t = whole .says k in question (t .prefix) (t .loop) (t .table) (whole .entries k) (whole .positions k) in
+      let here = subst (λ q. Wrote q work workLeft tree treeLeft r) asked wr in
+      let one = write-one (question (s′ .prefix) (s′ .loop) (s′ .table) e′ i′) work tree workLeft workLeft′ treeLeft treeLeft′ r r′ here wr′ in
       record {
         work = one .1;
         tree = one .2;

@@ -1,19 +1,19 @@
 -- What the text program's output is, a law a return: 14, 13, or what write answers to the question that was read.
 -- Assumes nothing.
 use mathlib.Core.Path.{_≡_, refl, sym, ap, subst, _∙_}
-use mathlib.Core.Logic.{by-cases}
 use mathlib.Core.List.{List}
 use Prim.Native.Nat.{ℕ, _+_, _<_, _≤_, min}
-use native.Mathlib.Decide.{decLe}
 use native.Mathlib.Omega.{arith}
-use lib.ListN.{length, take, drop, length-append}
-use lib.Seq.{take-append-seam, length-take-le, take-all}
+use lib.ListN.{length, take, drop, length-append, length-take}
+use lib.Seq.{take-append-seam}
 use Rattle.schedule.specs.Figures.{Figures}
-use Rattle.rules.specs.Formula.{Formula}
-use Rattle.trees.specs.Rules.{Frame}
-use Rattle.chickvessel.specs.Accepted.{maxWords}
-use Rattle.chickvessel.specs.Worked.{Worked, refused, answered}
+use Rattle.chickvessel.specs.Answers.{figuresOf}
+use Rattle.chickvessel.specs.Questions.{Question as Asked, question}
+use Rattle.chickvessel.specs.Checked.{maxWords}
 use Rattle.chickvessel.specs.Wrote.{overwritten, Written, unwritten, tooShort, written, Wrote}
+use Rattle.chickvessel.specs.declared.Outcome.{Outcome}
+use Rattle.chickvessel.specs.declared.Outcome.the-variants.{Refused, NotValid, Judged}
+use Rattle.chickvessel.proofs.Working.{worked-answer, worked-passed}
 use Rattle.questions.specs.Texts.{askWord, line, Said, Line, prefixed, looped, entered, Right, begun, further, WrongLine, stuck, goes-on}
 use Rattle.questions.specs.Lists.{kept}
 use Rattle.questions.specs.Questions.{Understood}
@@ -28,9 +28,7 @@ use Rattle.explain_text.proofs.Capped.{capped-wrote}
 -- What is kept of a list: its beginning.
 module _ (size : ℕ) (found ns : List ℕ) (n : ℕ) (e : n ≡ min (length ns) size) where
   cut-is : length (take size ns) ≡ n
-  cut-is = by-cases (decLe (length ns) size)
-      (λ le. ap length (take-all size ns le) ∙ omega (arith, e, le))
-      (λ gt. length-take-le size ns (omega (arith, gt)) ∙ omega (arith, e, gt))
+  cut-is = omega (arith, e, length-take size ns)
 
   pub kept-room : n ≤ length (kept size found ns)
   kept-room = omega (arith, cut-is, length-append (take size ns) (drop (length (take size ns)) found))
@@ -54,21 +52,18 @@ wrong-few (goes-on b is) = let w = b .asked in
     omega (arith, w .count, lines-few (w .right), ap length (w .whole), length-append (w .front) (line askWord (w .fields)), ap length (b .whole), length-append (b .front) (b .rest))
 
 -- The size is no larger than a tree may be, and than what is left in the buffer.
-module _ {frame : Frame} {f : Formula} {i : ℕ} {tree left : List ℕ} where
-  written-few : {r : Figures} → Written frame f i tree left r → (r .size ≤ maxWords) × (r .size ≤ length left)
+module _ {q : Asked} {tree left : List ℕ} where
+  written-few : {r : Figures} → Written q tree left r → (r .size ≤ maxWords) × (r .size ≤ length left)
   unfolding overwritten
   written-few (unwritten a) = (omega arith, omega arith)
   written-few (tooShort l le lt) = (omega arith, omega arith)
   written-few (written words l le room is) = (le, omega (arith, ap length is, length-append words (drop (length words) tree)))
 
-worked-few : {prefix loop list : List ℕ} {e i : ℕ} {found work : List ℕ} {frame : Frame} {f : Formula} {k : ℕ} {tree left : List ℕ} {r : Figures}
-    → Worked prefix loop list e i found work (Written frame f k tree left) r → (r .size ≤ maxWords) × (r .size ≤ length left)
-worked-few (refused n p l) = let none = ap (λ g. g .size) p in (omega (arith, none), omega (arith, none))
-worked-few (answered n l a) = written-few a
-
-pub wrote-few : {prefix loop list : List ℕ} {e i : ℕ} {work workLeft tree treeLeft : List ℕ} {r : Figures}
-    → Wrote prefix loop list e i work workLeft tree treeLeft r → (r .size ≤ maxWords) × (r .size ≤ length treeLeft)
-wrote-few w = worked-few (w .answer)
+  pub wrote-few : {work workLeft : List ℕ} (o : Outcome) → Wrote q work workLeft tree left (figuresOf o)
+      → (figuresOf o .size ≤ maxWords) × (figuresOf o .size ≤ length left)
+  wrote-few (Refused x) w = (omega arith, omega arith)
+  wrote-few (NotValid p) w = (omega arith, omega arith)
+  wrote-few (Judged v n) w = written-few (worked-answer (worked-passed refl (w .answer)) (w .answer))
 
 module _ {text work tree out outLeft : List ℕ} {r : ℕ} where
   pub output-long : maxText < length text → Placed LongText 0 out outLeft r → Placed (Output text work work tree tree) 0 out outLeft r
@@ -81,7 +76,7 @@ module _ {text work tree out outLeft : List ℕ} {r : ℕ} where
 pub output-answered : {text work workLeft tree treeLeft out outLeft : List ℕ} {r : ℕ} {pf pn lf ln tf tn : List ℕ} {q : Question} {figures : Figures} {n m k : ℕ}
     → length text ≤ maxText → (u : Understood text pf pn lf ln tf tn q)
     → n ≡ min (q .prefix) 49 → m ≡ min (q .again) 49 → k ≡ min (q .entries) 33
-    → Wrote (take n pn) (take m ln) (take k tn) (q .entry) (q .position) work workLeft tree treeLeft figures
+    → Wrote (question (take n pn) (take m ln) (take k tn) (q .entry) (q .position)) work workLeft tree treeLeft figures
     → Placed (Rendered figures (take (figures .size) treeLeft)) 0 out outLeft r
     → Placed (Output text work workLeft tree treeLeft) 0 out outLeft r
 output-answered {work = work} {workLeft} {tree} {treeLeft} {pf = pf} {pn} {lf} {ln} {tf} {tn} {q} {figures} {n} {m} {k} le u en em ek w =
@@ -89,9 +84,8 @@ output-answered {work = work} {workLeft} {tree} {treeLeft} {pf = pf} {pn} {lf} {
     let front = ap (take n) (u .prefix-kept) ∙ kept-front 49 pf (s .prefix) n (en ∙ ap (λ c. min c 49) (u .prefix)) in
     let loop = ap (take m) (u .loop-kept) ∙ kept-front 49 lf (s .loop) m (em ∙ ap (λ c. min c 49) (u .again)) in
     let table = ap (take k) (u .table-kept) ∙ kept-front 33 tf (s .table) k (ek ∙ ap (λ c. min c 33) (u .entries)) in
-    let capped = subst (λ a. Wrote a (take 49 (s .loop)) (take 33 (s .table)) (q .entry) (q .position) work workLeft tree treeLeft figures) front
-    (subst (λ a. Wrote (take n pn) a (take 33 (s .table)) (q .entry) (q .position) work workLeft tree treeLeft figures) loop
-    (subst (λ a. Wrote (take n pn) (take m ln) a (q .entry) (q .position) work workLeft tree treeLeft figures) table w)) in
+    let capped = subst (λ a. Wrote a work workLeft tree treeLeft figures)
+    (λ j. question (front j) (loop j) (table j) (q .entry) (q .position)) w in
     placed-as (λ bs t. Explained.answered s (q .entry) (q .position) (u .lines) figures le (u .whole)
     (capped-wrote (s .prefix) (s .loop) (s .table) (q .entry) (q .position) capped) t)
 

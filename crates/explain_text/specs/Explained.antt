@@ -4,6 +4,7 @@ use mathlib.Core.Path.{_≡_}
 use mathlib.Core.List.{List}
 use lib.ListN.{length, take}
 use Rattle.schedule.specs.Figures.{Figures}
+use Rattle.chickvessel.specs.Questions.{question}
 use Rattle.chickvessel.specs.Wrote.{Wrote}
 use Rattle.questions.specs.Texts.{Said, Whole, WrongLine}
 use Rattle.rendering.specs.Texts.{Rendered, WrongText, LongText}
@@ -19,7 +20,8 @@ pub data Output (text work workLeft tree treeLeft : List ℕ) (bytes : List ℕ)
   wrong : (line : ℕ) → length text ≤ maxText → WrongLine text line → workLeft ≡ work → treeLeft ≡ tree → WrongText line bytes
       → Output text work workLeft tree treeLeft bytes
   answered : (s : Said) (entry position lines : ℕ) (r : Figures) → length text ≤ maxText → Whole text s entry position lines
-      → Wrote (s .prefix) (s .loop) (s .table) entry position work workLeft tree treeLeft r → Rendered r (take (r .size) treeLeft) bytes
+      → Wrote (question (s .prefix) (s .loop) (s .table) entry position) work workLeft tree treeLeft r
+      → Rendered r (take (r .size) treeLeft) bytes
       → Output text work workLeft tree treeLeft bytes
 
 -- The output stands at the front of its buffer, the rest as found; the answer is how many bytes it has.

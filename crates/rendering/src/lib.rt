@@ -6,7 +6,7 @@ ghost use Prim.Native.Nat.{_+_, _*_, _≤_, _<_};
 ghost use lib.ListN.{length, take};
 ghost use Rattle.decimals.specs.Decimals.{Decimal};
 ghost use Rattle.chickvessel.specs.Answers.{figuresOf};
-ghost use Rattle.chickvessel.specs.Accepted.{maxWords};
+ghost use Rattle.chickvessel.specs.Checked.{maxWords};
 ghost use Rattle.rendering.specs.Texts.{Field, NumberLine, NodeLine, NodeLines, VerdictLine, Rendered, WrongText, LongText};
 ghost use Rattle.rendering.specs.Placed.{Placed};
 

@@ -6,37 +6,53 @@ use Prim.Native.Nat.{ℕ, zero, suc, _+_, max, _<_, _≤_}
 use native.Mathlib.Nat.{le-refl, not-suc-le-zero}
 use native.Mathlib.Omega.{arith}
 use lib.ListN.{getD}
-use Rattle.rules.specs.Formula.{Formula, height, sinceAdds, untilAdds}
-use Rattle.rules.specs.Tables.{entryAt, build, formulaOf}
-use Rattle.rules.specs.Heights.{partsOf}
+use Rattle.rules.specs.Formula.{Formula, height}
+use Rattle.rules.specs.Tables.{entryAt, turned, joined, build, formulaOf}
+use Rattle.rules.specs.Heights.{addsOf, partsOf}
 use Rattle.rules.specs.declared.Side.{Side}
 use Rattle.rules.specs.declared.Side.the-variants.{Past, Future}
 use Rattle.rules.specs.declared.Entry.{Entry}
-use Rattle.rules.specs.declared.Entry.the-variants.{Atom, Not, Or, And, Since, Until, Broken}
+use Rattle.rules.specs.declared.Entry.the-variants.{Atom, One, Two, Broken}
+use Rattle.rules.specs.declared.Unary.{Unary}
+use Rattle.rules.specs.declared.Unary.the-variants.{Not}
+use Rattle.rules.specs.declared.Binary.{Binary}
+use Rattle.rules.specs.declared.Binary.the-variants.{Or, And, Since, Until}
 use Rattle.rules.specs.declared.Descent.{Descent}
 use Rattle.rules.specs.declared.Descent.the-variants.{Leaf, Down}
 use Rattle.rules.proofs.Entries.{PartsBelow, parts-earlier}
 use Rattle.rules.proofs.Unrolls.{formula-unrolls}
 
-since-adds-small : (s : Side) → sinceAdds s ≤ 1
-since-adds-small Past = omega arith
-since-adds-small Future = omega arith
+adds-small : (s : Side) (op : Binary) → addsOf s op ≤ 1
+adds-small s Or = omega arith
+adds-small s And = omega arith
+adds-small Past Since = omega arith
+adds-small Future Since = omega arith
+adds-small Past Until = omega arith
+adds-small Future Until = omega arith
 
-until-adds-small : (s : Side) → untilAdds s ≤ 1
-until-adds-small Past = omega arith
-until-adds-small Future = omega arith
+pub parts-two : (s : Side) (x : Entry) (op : Binary) (l r a : ℕ) → x ≡ Two op l r → a ≡ addsOf s op
+    → Down l r a ≡ partsOf s x
+parts-two s x op l r a p q = ap (Down l r) q ∙ ap (partsOf s) (sym p)
 
 abbrev descended : Side → (ℕ → Formula) → Descent → ℕ
 descended s part Leaf = 0
 descended s part (Down l r a) = max (height s (part l)) (height s (part r)) + a
 
+turned-height : (s : Side) (op : Unary) (f : Formula)
+    → height s (turned op f) ≡ max (height s f) (height s f) + 0
+turned-height s Not f = omega arith
+
+joined-height : (s : Side) (op : Binary) (f g : Formula)
+    → height s (joined op f g) ≡ max (height s f) (height s g) + addsOf s op
+joined-height s Or f g = omega arith
+joined-height s And f g = omega arith
+joined-height s Since f g = refl
+joined-height s Until f g = refl
+
 build-height : (s : Side) (part : ℕ → Formula) (x : Entry) → height s (build part x) ≡ descended s part (partsOf s x)
 build-height s part (Atom a) = refl
-build-height s part (Not l) = omega arith
-build-height s part (Or l r) = omega arith
-build-height s part (And l r) = omega arith
-build-height s part (Since l r) = refl
-build-height s part (Until l r) = refl
+build-height s part (One op l) = turned-height s op (part l)
+build-height s part (Two op l r) = joined-height s op (part l) (part r)
 build-height s part Broken = refl
 
 abbrev DownBelow : ℕ → Descent → Type 0
@@ -45,11 +61,8 @@ DownBelow e (Down l r a) = (l < e) × (r < e) × (a ≤ 1)
 
 parts-below : (s : Side) (e : ℕ) (x : Entry) → PartsBelow e x → DownBelow e (partsOf s x)
 parts-below s e (Atom a) h = tt
-parts-below s e (Not l) h = (h, h, omega arith)
-parts-below s e (Or l r) h = (h .0, h .1, omega arith)
-parts-below s e (And l r) h = (h .0, h .1, omega arith)
-parts-below s e (Since l r) h = (h .0, h .1, since-adds-small s)
-parts-below s e (Until l r) h = (h .0, h .1, until-adds-small s)
+parts-below s e (One op l) h = (h, h, omega arith)
+parts-below s e (Two op l r) h = (h .0, h .1, adds-small s op)
 parts-below s e Broken h = tt
 
 module _ (s : Side) (table : List ℕ) (e : ℕ) where

@@ -1,8 +1,9 @@
 pub mod Below
 pub mod Entries
 pub mod Unrolls
+pub mod Rows
 pub mod Heights
 pub mod Copied
-pub mod Refusals
+pub mod Tested
 pub mod Neighbours
 pub mod Determined

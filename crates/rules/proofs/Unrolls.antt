@@ -5,19 +5,16 @@ use mathlib.Core.List.{List}
 use Prim.Native.Nat.{ℕ, zero, suc, _<_}
 use native.Mathlib.Nat.{not-suc-le-zero, le-of-suc-le-suc, lt-of-lt-of-le, le-refl}
 use lib.ListN.{getD}
-use Rattle.rules.specs.Formula.{Formula, notᶠ, orᶠ, andᶠ, since, until}
-use Rattle.rules.specs.Tables.{entryAt, build, unrolled, formulaOf}
+use Rattle.rules.specs.Formula.{Formula}
+use Rattle.rules.specs.Tables.{entryAt, turned, joined, build, unrolled, formulaOf}
 use Rattle.rules.specs.declared.Entry.{Entry}
-use Rattle.rules.specs.declared.Entry.the-variants.{Atom, Not, Or, And, Since, Until, Broken}
+use Rattle.rules.specs.declared.Entry.the-variants.{Atom, One, Two, Broken}
 use Rattle.rules.proofs.Entries.{PartsBelow, parts-earlier}
 
 build-cong : (e : ℕ) (f g : ℕ → Formula) → ((p : ℕ) → p < e → f p ≡ g p) → (x : Entry) → PartsBelow e x → build f x ≡ build g x
 build-cong e f g same (Atom a) h = refl
-build-cong e f g same (Not l) h = ap notᶠ (same l h)
-build-cong e f g same (Or l r) h = ap₂ orᶠ (same l (h .0)) (same r (h .1))
-build-cong e f g same (And l r) h = ap₂ andᶠ (same l (h .0)) (same r (h .1))
-build-cong e f g same (Since l r) h = ap₂ since (same l (h .0)) (same r (h .1))
-build-cong e f g same (Until l r) h = ap₂ until (same l (h .0)) (same r (h .1))
+build-cong e f g same (One op l) h = ap (turned op) (same l h)
+build-cong e f g same (Two op l r) h = ap₂ (joined op) (same l (h .0)) (same r (h .1))
 build-cong e f g same Broken h = refl
 
 -- past the entry's own index more steps change nothing

@@ -1,9 +1,12 @@
 -- What a word of a table says at its index: the kind table of the document, row by row.
 use Prim.Native.Nat.{ℕ, _/_, _%_}
 use mathlib.Core.Bool.{Bool, true, false, cond, _&&_}
-use lib.Dec.{eqb, ltb}
+use lib.Dec.{eqb, ltb, leb}
 use Rattle.rules.specs.declared.Entry.{Entry}
-use Rattle.rules.specs.declared.Entry.the-variants.{Atom, Not, Or, And, Since, Until, Broken}
+use Rattle.rules.specs.declared.Entry.the-variants.{Atom, One, Two, Broken}
+use Rattle.rules.specs.declared.Unary.the-variants.{Not}
+use Rattle.rules.specs.declared.Binary.{Binary}
+use Rattle.rules.specs.declared.Binary.the-variants.{Or, And, Since, Until}
 
 -- A field below a bound, and the other 0.
 unfoldable pub isAlone : ℕ → ℕ → ℕ → Bool
@@ -13,18 +16,19 @@ isAlone bound l r = ltb l bound && eqb r 0
 unfoldable pub areEarlier : ℕ → ℕ → ℕ → Bool
 areEarlier i l r = ltb l i && ltb r i
 
--- Kinds 2 to 5: or, and, since, until. There is no kind above.
-abbrev pub byKind : ℕ → ℕ → ℕ → Entry
-byKind k l r = cond (eqb k 2) (Or l r) (cond (eqb k 3) (And l r) (cond (eqb k 4) (Since l r) (cond (eqb k 5) (Until l r) Broken)))
+-- Kinds 2 to 5: or, and, since, until.
+abbrev pub binaryOf : ℕ → Binary
+binaryOf k = cond (eqb k 2) Or (cond (eqb k 3) And (cond (eqb k 4) Since Until))
 
+-- Of two earlier entries. There is no kind above 5.
 unfoldable pub pairOf : ℕ → ℕ → ℕ → ℕ → Entry
-pairOf i k l r = cond (areEarlier i l r) (byKind k l r) Broken
+pairOf i k l r = cond (areEarlier i l r && (leb 2 k && leb k 5)) (Two (binaryOf k) l r) Broken
 
 -- Kind 0: atom 0 to 31, right 0. Kind 1: not an earlier entry, right 0.
 unfoldable pub entryFrom : ℕ → ℕ → ℕ → ℕ → Entry
 entryFrom i k l r =
     cond (eqb k 0) (cond (isAlone 32 l r) (Atom l) Broken)
-    (cond (eqb k 1) (cond (isAlone i l r) (Not l) Broken)
+    (cond (eqb k 1) (cond (isAlone i l r) (One Not l) Broken)
     (pairOf i k l r))
 
 -- A word is kind × 65,536 + left × 256 + right.
@@ -33,9 +37,6 @@ entryOf i w = entryFrom i (w / 65536) (w / 256 % 256) (w % 256)
 
 abbrev pub kept : Entry → Bool
 kept (Atom a) = true
-kept (Not l) = true
-kept (Or l r) = true
-kept (And l r) = true
-kept (Since l r) = true
-kept (Until l r) = true
+kept (One op l) = true
+kept (Two op l r) = true
 kept Broken = false

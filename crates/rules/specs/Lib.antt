@@ -3,4 +3,4 @@ pub mod Meaning
 pub mod Entries
 pub mod Tables
 pub mod Heights
-pub mod Asked
+pub mod Low

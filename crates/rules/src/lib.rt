@@ -1,15 +1,14 @@
-// Rule tables: what an entry says, the record that a list is read into, the heights, and refusals 3 to 6.
+// Rule tables: what an entry says, the record that a list is read into, the heights, and what is tested of all entries.
 use schedule::Schedule;
 ghost use mathlib.Core.Path.{_≡_};
 ghost use Prim.Native.Nat.{_≤_, _<_, max};
 ghost use lib.ListN.{length};
 ghost use Rattle.schedule.specs.Limits.{maxEntries};
-ghost use Rattle.schedule.specs.Figures.{bare};
 ghost use Rattle.rules.specs.Formula.{height, sinceAdds, untilAdds};
-ghost use Rattle.rules.specs.Entries.{entryOf, isAlone, areEarlier, pairOf, kept};
-ghost use Rattle.rules.specs.Tables.{entryAt, formulaOf, keepsAll, tableOf, noTable, Reads};
-ghost use Rattle.rules.specs.Asked.{lowAt, lowAll, askedFigures, askRefusal};
-ghost use Rattle.rules.specs.Heights.{partsOf};
+ghost use Rattle.rules.specs.Entries.{entryOf, isAlone, areEarlier, binaryOf, pairOf, kept};
+ghost use Rattle.rules.specs.Tables.{entryAt, formulaOf, keepsAll, tableOf, noTable, readInto};
+ghost use Rattle.rules.specs.Low.{lowAt, lowAll};
+ghost use Rattle.rules.specs.Heights.{addsOf, partsOf};
 
 // Atoms of a letter: its bits.
 const ATOMS: usize = 32;
@@ -19,41 +18,31 @@ pub enum Side {
     Future,
 }
 
-// What a word of a table says at its place.
+// What a word of a table says at its place: an atom, or an operator and its parts.
 pub enum Entry {
     Atom(usize),
-    Not(usize),
-    Or(usize, usize),
-    And(usize, usize),
-    Since(usize, usize),
-    Until(usize, usize),
+    One(Unary, usize),
+    Two(Binary, usize, usize),
     Broken,
+}
+
+// The operators of one part.
+pub enum Unary {
+    Not,
+}
+
+// The operators of two parts.
+pub enum Binary {
+    Or,
+    And,
+    Since,
+    Until,
 }
 
 // A table once read: its entries and their count.
 pub struct Table {
     pub words: [u32; Schedule::MAX_ENTRIES],
     pub len: usize,
-}
-
-// Why a list is no table, or that it is one.
-pub enum Outcome {
-    Count,
-    Kind,
-    Ready,
-}
-
-// (An enum cannot hold the table's array, so the table stands beside it: with no entry where the list is refused.)
-pub struct Reading {
-    pub outcome: Outcome,
-    pub table: Table,
-}
-
-// Why an entry of a table cannot be asked, or that it can.
-pub enum Asked {
-    TooHigh,
-    NoEntry,
-    Ready,
 }
 
 // An entry with one field keeps the kind table if that lies below its bound and the other is 0.
@@ -70,6 +59,19 @@ fn earlier(index: usize, left: usize, right: usize) -> bool
     left < index && right < index
 }
 
+// The operator of kinds 2 to 5.
+fn joint(kind: u32) -> Binary
+    requires { ⌜ (2 ≤ kind) × (kind ≤ 5) ⌝ }
+    ensures { λ r. ⌜ r ≡ binaryOf kind ⌝ }
+{
+    match kind {
+        2 => Binary::Or,
+        3 => Binary::And,
+        4 => Binary::Since,
+        _ => Binary::Until,
+    }
+}
+
 fn pair(index: usize, kind: u32, left: usize, right: usize) -> Entry
     ensures { λ r. ⌜ r ≡ pairOf index kind left right ⌝ }
 {
@@ -77,10 +79,7 @@ fn pair(index: usize, kind: u32, left: usize, right: usize) -> Entry
         return Entry::Broken;
     }
     match kind {
-        2 => Entry::Or(left, right),
-        3 => Entry::And(left, right),
-        4 => Entry::Since(left, right),
-        5 => Entry::Until(left, right),
+        2..=5 => Entry::Two(joint(kind), left, right),
         _ => Entry::Broken,
     }
 }
@@ -100,7 +99,7 @@ pub fn decode(index: usize, word: u32) -> Entry
     }
     if kind == 1 {
         if alone(index, left, right) {
-            return Entry::Not(left);
+            return Entry::One(Unary::Not, left);
         }
         return Entry::Broken;
     }
@@ -135,6 +134,18 @@ fn until_adds(side: Side) -> usize
     }
 }
 
+// What an operator adds to the greater height of its two parts.
+fn adds(op: Binary, side: Side) -> usize
+    ensures { λ r. ⌜ r ≡ addsOf side op ⌝ }
+{
+    match op {
+        Binary::Or => 0,
+        Binary::And => 0,
+        Binary::Since => since_adds(side),
+        Binary::Until => until_adds(side),
+    }
+}
+
 // Where a height is followed down: two parts and what the entry adds to the greater.
 enum Descent {
     Leaf,
@@ -145,11 +156,8 @@ fn parts(entry: Entry, side: Side) -> Descent
     ensures { λ r. ⌜ r ≡ partsOf side entry ⌝ }
 {
     match entry {
-        Entry::Not(l) => Descent::Down(l, l, 0),
-        Entry::Or(l, r) => Descent::Down(l, r, 0),
-        Entry::And(l, r) => Descent::Down(l, r, 0),
-        Entry::Since(l, r) => Descent::Down(l, r, since_adds(side)),
-        Entry::Until(l, r) => Descent::Down(l, r, until_adds(side)),
+        Entry::One(_, l) => Descent::Down(l, l, 0),
+        Entry::Two(op, l, r) => Descent::Down(l, r, adds(op, side)),
         Entry::Atom(_) => Descent::Leaf,
         Entry::Broken => Descent::Leaf,
     }
@@ -180,17 +188,14 @@ fn keeps(index: usize, word: u32) -> bool
 {
     match decode(index, word) {
         Entry::Atom(_) => true,
-        Entry::Not(_) => true,
-        Entry::Or(_, _) => true,
-        Entry::And(_, _) => true,
-        Entry::Since(_, _) => true,
-        Entry::Until(_, _) => true,
+        Entry::One(_, _) => true,
+        Entry::Two(_, _, _) => true,
         Entry::Broken => false,
     }
 }
 
 // Whether every entry of a list keeps the kind table.
-fn all_keep(list: &[u32]) -> bool
+pub fn all_keep(list: &[u32]) -> bool
     ensures { λ r. ⌜ r ≡ keepsAll (now (list .entry)) ⌝ }
 {
     let mut e = 0;
@@ -219,35 +224,24 @@ fn filled(list: &[u32]) -> Table
     }
 }
 
-fn refused(outcome: Outcome) -> Reading
-    ensures { λ r. ⌜ (r .outcome ≡ outcome) × (r .table ≡ noTable) ⌝ }
+// The record of no entry.
+fn no_table() -> Table
+    ensures { λ r. ⌜ r ≡ noTable ⌝ }
 {
-    Reading {
-        outcome,
-        table: Table {
-            words: [0u32; Schedule::MAX_ENTRIES],
-            len: 0,
-        },
+    Table {
+        words: [0u32; Schedule::MAX_ENTRIES],
+        len: 0,
     }
 }
 
-// A list of words read into the record, or the first refusal that it earns.
-pub fn read(list: &[u32]) -> Reading
-    ensures { λ r. ⌜ Reads (now (list .entry)) r ⌝ }
+// A list of words read into the record. One that has no place in it reads as one of no word: both are refused alike.
+pub fn read(list: &[u32]) -> Table
+    ensures { λ r. ⌜ r ≡ readInto (now (list .entry)) ⌝ }
 {
-    if list.len() == 0 {
-        return refused(Outcome::Count);
-    }
     if Schedule::MAX_ENTRIES < list.len() {
-        return refused(Outcome::Count);
+        return no_table();
     }
-    if !all_keep(list) {
-        return refused(Outcome::Kind);
-    }
-    Reading {
-        outcome: Outcome::Ready,
-        table: filled(list),
-    }
+    filled(list)
 }
 
 // Whether the two heights of an entry add up to no more than the limit.
@@ -258,7 +252,8 @@ fn low(words: &[u32], e: usize) -> bool
     height(words, e, Side::Past) + height(words, e, Side::Future) <= Schedule::MAX_HEIGHT
 }
 
-fn all_low(words: &[u32]) -> bool
+// Whether every entry of a list has heights within the limit.
+pub fn all_low(words: &[u32]) -> bool
     ensures { λ r. ⌜ r ≡ lowAll (now (words .entry)) ⌝ }
 {
     let mut e = 0;
@@ -269,17 +264,4 @@ fn all_low(words: &[u32]) -> bool
         e += 1;
     }
     true
-}
-
-// Whether an entry of a table can be asked, or the first refusal that the question earns.
-pub fn ask(words: &[u32], entry: usize) -> Asked
-    ensures { λ r. ⌜ askedFigures r ≡ bare (askRefusal (now (words .entry)) entry) ⌝ }
-{
-    if !all_low(words) {
-        return Asked::TooHigh;
-    }
-    if words.len() <= entry {
-        return Asked::NoEntry;
-    }
-    Asked::Ready
 }

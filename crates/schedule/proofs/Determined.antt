@@ -8,29 +8,27 @@ use native.Mathlib.Decide.{decLt}
 use native.Mathlib.Omega.{arith}
 use lib.ListN.{length}
 use denote.Ref.{RefT, now, ptr}
-use Rattle.schedule.specs.Lengths.{Makes, figuresOf}
+use Rattle.schedule.specs.Lengths.{Makes}
 use Rattle.schedule.specs.Letters.{Rest, View, letterAt}
 use Rattle.schedule.specs.declared.Made.{Made}
 use Rattle.schedule.specs.declared.Made.the-variants.{EmptyLoop, TooLong, Ready}
+use Rattle.schedule.proofs.Tests.{fails-one, fails-or-passes}
 
 -- Where a contract is an equation.
 pub equal-one {ℓ} : {A : Type ℓ} {x a b : A} → a ≡ x → b ≡ x → a ≡ b
 equal-one p q = p ∙ sym q
 
-module _ (u v : ℕ) where
-  one-number : {m n : Made} → Makes u v m → Makes u v n → figuresOf m .number ≡ figuresOf n .number
-  one-number p q = ap (λ f. f .number) (p .figures ∙ sym (q .figures))
-
-  pub new-one : (m n : Made) → Makes u v m → Makes u v n → m ≡ n
-  new-one EmptyLoop EmptyLoop p q = refl
-  new-one EmptyLoop TooLong p q = absurd (omega (arith, one-number p q))
-  new-one EmptyLoop (Ready s) p q = absurd (omega (arith, one-number p q))
-  new-one TooLong EmptyLoop p q = absurd (omega (arith, one-number p q))
-  new-one TooLong TooLong p q = refl
-  new-one TooLong (Ready s) p q = absurd (omega (arith, one-number p q))
-  new-one (Ready s) EmptyLoop p q = absurd (omega (arith, one-number p q))
-  new-one (Ready s) TooLong p q = absurd (omega (arith, one-number p q))
-  new-one (Ready s) (Ready t) p q = ap Ready (p .lengths s refl ∙ sym (q .lengths t refl))
+-- Two cases of the constructor for the same lengths: refused by the same test, or none.
+pub new-one : (u v : ℕ) (m n : Made) → Makes u v m → Makes u v n → m ≡ n
+new-one u v EmptyLoop EmptyLoop p q = refl
+new-one u v EmptyLoop TooLong p q = absurd (omega (arith, ap (λ f. f .number) (fails-one p q)))
+new-one u v EmptyLoop (Ready s) p q = absurd (fails-or-passes p (q .0))
+new-one u v TooLong EmptyLoop p q = absurd (omega (arith, ap (λ f. f .number) (fails-one p q)))
+new-one u v TooLong TooLong p q = refl
+new-one u v TooLong (Ready s) p q = absurd (fails-or-passes p (q .0))
+new-one u v (Ready s) EmptyLoop p q = absurd (fails-or-passes q (p .0))
+new-one u v (Ready s) TooLong p q = absurd (fails-or-passes q (p .0))
+new-one u v (Ready s) (Ready t) p q = ap Ready (p .1 ∙ sym (q .1))
 
 -- One part of the caller's memory, with one list of letters. (A reference's ghost name is no part of a result.)
 abbrev Same : RefT (List ℕ) → RefT (List ℕ) → Type 0

@@ -1,28 +1,24 @@
--- The constructor's cases, a law a return.
+-- When lengths are refused with 1, with 2 and not at all: the constructor's cases, a law a return.
 -- Assumes nothing.
-use mathlib.Core.Path.{_≡_, sym, ap}
+use mathlib.Core.Path.{_≡_, refl}
 use Prim.Native.Nat.{ℕ, _+_, _<_, _≤_}
-use borrow.Author.Tests.{eq-eqb, ne-eqb, lt-ltb, le-ltb}
+use native.Mathlib.Omega.{arith}
+use borrow.Author.Tests.{lt-ltb, le-ltb, le-leb, lt-leb}
 use Rattle.schedule.specs.Limits.{maxLetters}
-use Rattle.schedule.specs.Figures.{bare}
-use Rattle.schedule.specs.Lengths.{Makes, refusal}
-use Rattle.schedule.specs.declared.Made.the-variants.{EmptyLoop, TooLong, Ready}
+use Rattle.schedule.specs.Figures.{refusal}
+use Rattle.schedule.specs.Tests.{AllPass, none, also, FirstFails, here, later}
+use Rattle.schedule.specs.Lengths.{lengthTests, Makes}
+use Rattle.schedule.specs.declared.Made.the-variants.{Ready}
 
 module _ (u v : ℕ) where
-  pub refusal-1 : v ≡ 0 → refusal u v ≡ 1
-  refusal-1 e = simp (eq-eqb v 0 e)
+  pub refusal-1 : v ≡ 0 → FirstFails (lengthTests u v) (refusal 1)
+  refusal-1 e = here (le-ltb 0 v (omega (arith, e)))
 
-  pub refusal-2 : (v ≡ 0 → ⊥) → maxLetters < u + v → refusal u v ≡ 2
-  refusal-2 ne lt = simp (ne-eqb v 0 ne, lt-ltb maxLetters (u + v) lt)
+  pub refusal-2 : (v ≡ 0 → ⊥) → maxLetters < u + v → FirstFails (lengthTests u v) (refusal 2)
+  refusal-2 ne lt = later (lt-ltb 0 v (omega (arith, ne))) (here (lt-leb (u + v) maxLetters lt))
 
-  pub refusal-0 : (v ≡ 0 → ⊥) → u + v ≤ maxLetters → refusal u v ≡ 0
-  refusal-0 ne le = simp (ne-eqb v 0 ne, le-ltb maxLetters (u + v) le)
-
-  pub makes-empty : v ≡ 0 → Makes u v EmptyLoop
-  makes-empty e = record { figures = ap bare (sym (refusal-1 e)); lengths = λ s p. cc }
-
-  pub makes-long : (v ≡ 0 → ⊥) → maxLetters < u + v → Makes u v TooLong
-  makes-long ne lt = record { figures = ap bare (sym (refusal-2 ne lt)); lengths = λ s p. cc }
+  pub refusal-0 : (v ≡ 0 → ⊥) → u + v ≤ maxLetters → AllPass (lengthTests u v)
+  refusal-0 ne le = also (lt-ltb 0 v (omega (arith, ne))) (also (le-leb (u + v) maxLetters le) none)
 
   pub makes-ready : (v ≡ 0 → ⊥) → u + v ≤ maxLetters → Makes u v (Ready (record { prefix = u; again = v }))
-  makes-ready ne le = record { figures = ap bare (sym (refusal-0 ne le)); lengths = λ s p. cc }
+  makes-ready ne le = (refusal-0 ne le, refl)

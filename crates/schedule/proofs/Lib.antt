@@ -1,3 +1,4 @@
+pub mod Tests
 pub mod Lengths
 pub mod Letters
 pub mod Determined

@@ -1,4 +1,5 @@
 pub mod Limits
 pub mod Figures
+pub mod Tests
 pub mod Lengths
 pub mod Letters

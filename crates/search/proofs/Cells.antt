@@ -1,4 +1,4 @@
--- Cells and states, a law a return; and the sizes in a state stay within the cut.
+-- Cells and states, a law a return; and the prices in a state stay within the cut.
 -- Assumes nothing.
 use mathlib.Core.Path.{_≡_, refl, sym, ap, subst, _∙_}
 use mathlib.Core.Bool.{Bool, true, false, not, _&&_, _||_, cond}
@@ -110,7 +110,7 @@ module _ (kind : Plain) (a b : ℕ) {y : State} where
   unfolding plainState
   plain-and k e = e ∙ ap (λ m. plainState m a b) (sym k)
 
--- the sizes of a state stay within the cut
+-- the prices of a state stay within the cut
 pub record Small (x : State) : Type 0 where
   pub pro-small : x .pro ≤ 4096
   pub con-small : x .con ≤ 4096

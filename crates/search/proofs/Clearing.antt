@@ -8,6 +8,7 @@ use borrow.Author.Fill.{fill-none, fill-more}
 use lib.ListN.{length, length-set, length-drop, set, drop, replicate}
 use lib.Seq.{getD-drop, ext-getD}
 use Rattle.trees.specs.Rules.{Frame}
+use Rattle.trees.specs.Least.{Cost}
 use Rattle.search.specs.Filling.{Fills}
 use Rattle.search.specs.Clearing.{cleared}
 
@@ -34,7 +35,7 @@ clears-done {k} {found} so-far all =
     so-far .front ∙ ap (λ n. replicate n 0 ++ drop n found) whole
 
 -- What was filled in between does not show.
-pub fills-cleared : {frame : Frame} {table : List ℕ} {v e : ℕ} {found left : List ℕ} → Fills frame table v e found left → cleared left ≡ cleared found
+pub fills-cleared : {cost : Cost} {frame : Frame} {table : List ℕ} {reach v e : ℕ} {found left : List ℕ} → Fills cost frame table reach v e found left → cleared left ≡ cleared found
 unfolding cleared
 fills-cleared {found = found} {left} fills =
     ap (λ l. replicate 16384 0 ++ l)

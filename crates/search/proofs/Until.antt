@@ -19,7 +19,7 @@ use Rattle.search.specs.Cells.{conOf, cellOf, stepped, untilState, close
 use Rattle.search.specs.Rows.{rowOf, Ready, Filled}
 use Rattle.search.specs.declared.State.{State}
 
--- the sizes of a state stay within the cut
+-- the prices of a state stay within the cut
 pub until-small : (a b : ℕ → ℕ) (top d : ℕ) → (untilState a b top d .pro ≤ 4096) × (untilState a b top d .con ≤ 4096)
 unfolding untilState stepped
 until-small a b top zero = (omega arith, omega arith)
@@ -91,26 +91,26 @@ unfolding untilCell
 cell-is a b cols lap start p = refl
 
 -- the last cell can be taken away where the right side repeats
-pub may-slide : (size : ℕ → ℕ) (lap start p sum : ℕ) → start ≤ p → sum ≡ sumRun size (suc p) (count lap start (suc p)) → size (p + lap) ≤ sum + size p
-may-slide size lap start p sum le e =
+pub may-slide : (price : ℕ → ℕ) (lap start p sum : ℕ) → start ≤ p → sum ≡ sumRun price (suc p) (count lap start (suc p)) → price (p + lap) ≤ sum + price p
+may-slide price lap start p sum le e =
     let n : count lap start (suc p) ≡ lap = omega arith in
-    let s : sumRun size (suc p) (count lap start (suc p)) ≡ sumRun size (suc p) lap = ap (sumRun size (suc p)) n in
-    omega (arith, s, e, run-slid size p lap)
+    let s : sumRun price (suc p) (count lap start (suc p)) ≡ sumRun price (suc p) lap = ap (sumRun price (suc p)) n in
+    omega (arith, s, e, run-slid price p lap)
 
-pub slid-on : (size : ℕ → ℕ) (lap start p sum r : ℕ) → start ≤ p → sum ≡ sumRun size (suc p) (count lap start (suc p))
-    → r + size (p + lap) ≡ sum + size p → r ≡ sumRun size p (count lap start p)
-slid-on size lap start p sum r le e s =
+pub slid-on : (price : ℕ → ℕ) (lap start p sum r : ℕ) → start ≤ p → sum ≡ sumRun price (suc p) (count lap start (suc p))
+    → r + price (p + lap) ≡ sum + price p → r ≡ sumRun price p (count lap start p)
+slid-on price lap start p sum r le e s =
     let n : count lap start (suc p) ≡ lap = omega arith in
     let m : count lap start p ≡ lap = omega arith in
-    let ns : sumRun size (suc p) (count lap start (suc p)) ≡ sumRun size (suc p) lap = ap (sumRun size (suc p)) n in
-    let ms : sumRun size p (count lap start p) ≡ sumRun size p lap = ap (sumRun size p) m in
-    omega (arith, ns, ms, e, s, run-slid size p lap)
+    let ns : sumRun price (suc p) (count lap start (suc p)) ≡ sumRun price (suc p) lap = ap (sumRun price (suc p)) n in
+    let ms : sumRun price p (count lap start p) ≡ sumRun price p lap = ap (sumRun price p) m in
+    omega (arith, ns, ms, e, s, run-slid price p lap)
 
-pub grown-on : (size : ℕ → ℕ) (lap start p sum r : ℕ) → p < start → sum ≡ sumRun size (suc p) (count lap start (suc p))
-    → r ≡ sum + size p → r ≡ sumRun size p (count lap start p)
-grown-on size lap start p sum r lt e s =
+pub grown-on : (price : ℕ → ℕ) (lap start p sum r : ℕ) → p < start → sum ≡ sumRun price (suc p) (count lap start (suc p))
+    → r ≡ sum + price p → r ≡ sumRun price p (count lap start p)
+grown-on price lap start p sum r lt e s =
     let m : count lap start p ≡ suc (count lap start (suc p)) = omega arith in
-    let ms : sumRun size p (count lap start p) ≡ sumRun size p (suc (count lap start (suc p))) = ap (sumRun size p) m in
+    let ms : sumRun price p (count lap start p) ≡ sumRun price p (suc (count lap start (suc p))) = ap (sumRun price p) m in
     omega (arith, ms, e, s)
 
 -- the row of an until filled down to d steps below the top, the rest as found, with the state and the sum there
@@ -139,11 +139,11 @@ module _ (row left right cols lap start : ℕ) (found : List ℕ) where
     before = λ k lt. refl;
     after = λ k ge. refl;
   } where
-    begun : (size : ℕ → ℕ) → sumRun size cols lap ≡ sumRun size (cols + lap - lap) (count lap start (cols + lap - lap))
-    begun size =
+    begun : (price : ℕ → ℕ) → sumRun price cols lap ≡ sumRun price (cols + lap - lap) (count lap start (cols + lap - lap))
+    begun price =
         let e : cols ≡ cols + lap - lap = omega arith in
         let n : lap ≡ count lap start cols = omega arith in
-        ap (sumRun size cols) n ∙ ap (λ q. sumRun size q (count lap start q)) e
+        ap (sumRun price cols) n ∙ ap (λ q. sumRun price q (count lap start q)) e
 
     absurd-of : (p : ℕ) → cols + lap ≤ p + lap → p < cols → rowOf found row p ≡ untilCell (rowOf found left) (rowOf found right) cols lap start p
     absurd-of p ge lt = omega arith

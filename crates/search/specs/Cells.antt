@@ -1,4 +1,4 @@
--- A cell of the work slice: the verdict of a formula at a position, and the least size of its trees, cut off at 4,096.
+-- A cell of the work slice: the verdict of a formula at a position, and the price of its trees, cut off at 4,096.
 use Prim.Native.Nat.{ℕ, zero, suc, _+_, _-_, _/_, _%_, _^_, min, max}
 use mathlib.Core.Path.{_≡_}
 use mathlib.Core.Bool.{Bool, true, false, not, _&&_, _||_, cond}
@@ -9,15 +9,15 @@ use Rattle.search.specs.declared.State.{State}
 use Rattle.search.specs.declared.Plain.{Plain}
 use Rattle.search.specs.declared.Plain.the-variants.{Not, Or, And}
 
--- The size, and 8,192 more where the formula holds.
+-- The price, and 8,192 more where the formula holds.
 unfoldable pub holdsIn : ℕ → Bool
 holdsIn c = ltb 8191 c
 
--- The least size of a tree that says it holds, or 4,096.
+-- The price of a tree that says it holds, or 4,096.
 unfoldable pub proOf : ℕ → ℕ
 proOf c = cond (ltb 8191 c) (c - 8192) cutOff
 
--- The least size of a tree that says it is violated, or 4,096.
+-- The price of a tree that says it is violated, or 4,096.
 unfoldable pub conOf : ℕ → ℕ
 conOf c = cond (ltb 8191 c) cutOff c
 

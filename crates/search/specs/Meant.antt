@@ -1,4 +1,4 @@
--- What a cell has to say of a formula at a position: the meaning, and the least sizes of its trees.
+-- What a cell has to say of a formula at a position: the meaning, and the prices of its trees.
 use Prim.Native.Nat.{ℕ}
 use mathlib.Core.Path.{_≡_}
 use mathlib.Core.Logic.{_↔_}
@@ -6,11 +6,12 @@ use mathlib.Core.Bool.{true}
 use Rattle.rules.specs.Formula.{Formula}
 use Rattle.rules.specs.Meaning.{Holds as Meant}
 use Rattle.trees.specs.Rules.{Frame, claim}
+use Rattle.trees.specs.Least.{Cost}
 use Rattle.trees.specs.declared.Verdict.the-variants.{Holds, Violated}
-use Rattle.theory.specs.Sizes.{Size}
+use Rattle.theory.specs.Prices.{Price}
 use Rattle.search.specs.Cells.{holdsIn, proOf, conOf}
 
-pub record CellFor (frame : Frame) (f : Formula) (i : ℕ) (c : ℕ) : Type 0 where
+pub record CellFor (cost : Cost) (frame : Frame) (f : Formula) (i : ℕ) (c : ℕ) : Type 0 where
   pub truth : (holdsIn c ≡ true) ↔ Meant (frame .letter) f i
-  pub pro : Size frame (claim f i Holds) (proOf c)
-  pub con : Size frame (claim f i Violated) (conOf c)
+  pub pro : Price cost frame (claim f i Holds) (proOf c)
+  pub con : Price cost frame (claim f i Violated) (conOf c)

@@ -1,4 +1,5 @@
-// One filling of the work slice: for each entry and position its verdict and the least size of its trees, cut off at 4,096.
+// One filling of the work slice: for each entry and position its verdict and the price of its trees, cut off at 4,096.
+use rules::Binary;
 use rules::Entry;
 use rules::Side;
 use rules::entry_at;
@@ -12,6 +13,7 @@ ghost use mathlib.Core.Bool.{true, _&&_, _||_};
 ghost use lib.ListN.{length};
 ghost use Rattle.schedule.specs.Letters.{letterAt};
 ghost use Rattle.trees.specs.Frames.{scheduleFrame};
+ghost use Rattle.trees.specs.Least.{ones};
 ghost use Rattle.theory.specs.Costs.{cut};
 ghost use Rattle.theory.specs.RunCosts.{sumRun};
 ghost use Rattle.search.specs.Cells.{holdsIn, proOf, conOf, goesOn, cellOf, notState, orState, andState, plainState, plainCell, stepped, sinceCell, untilState, closed, untilCell, Slid, atomState, atomCell};
@@ -19,7 +21,7 @@ ghost use Rattle.search.specs.Rows.{rowOf, Ready, Filled};
 ghost use Rattle.search.specs.Filling.{FilledBelow, Limited, Fills};
 ghost use Rattle.search.specs.Clearing.{cleared};
 
-// Where a loop along a row stands: the verdict, and the least sizes of trees of either verdict, or 4,096.
+// Where a loop along a row stands: the verdict, and the prices of trees of either verdict, or 4,096.
 pub struct State {
     pub holds: bool,
     pub pro: u32,
@@ -313,34 +315,50 @@ fn atom_row<'a>(
 }
 
 // A row by its entry's kind, from the rows before it.
-fn fill_row<'a>(prefix: &'a [u32], again: &'a [u32], words: &[u32], work: &mut [u16], row: usize)
-    requires { ⌜ Limited (length (now prefix)) (length (now again)) (now words) row (length (now work)) × FilledBelow (scheduleFrame (now prefix) (now again)) (now words) (length (now again)) row (now work) ⌝ }
-    ensures { λ _. ⌜ Fills (scheduleFrame (now (prefix .entry)) (now (again .entry))) (now (words .entry)) (length (now (again .entry))) (suc row) (now (work .entry)) (now (work .exit)) ⌝ }
+fn fill_row<'a>(
+    prefix: &'a [u32],
+    again: &'a [u32],
+    words: &[u32],
+    work: &mut [u16],
+    row: usize,
+    reach: usize,
+)
+    requires { ⌜ Limited (length (now prefix)) (length (now again)) reach (now words) row (length (now work)) × FilledBelow ones (scheduleFrame (now prefix) (now again)) (now words) reach (length (now again)) row (now work) ⌝ }
+    ensures { λ _. ⌜ Fills ones (scheduleFrame (now (prefix .entry)) (now (again .entry))) (now (words .entry)) reach (length (now (again .entry))) (suc row) (now (work .entry)) (now (work .exit)) ⌝ }
 {
     let lap = again.len();
-    let cols = 256 + lap * (Schedule::MAX_HEIGHT - height(words, row, Side::Future));
+    let cols = reach + lap * (Schedule::MAX_HEIGHT - height(words, row, Side::Future));
     match entry_at(words, row) {
         Entry::Atom(a) => atom_row(prefix, again, work, row, a, cols),
-        Entry::Not(l) => plain_row(work, row, Plain::Not, l, l, cols),
-        Entry::Or(l, r) => plain_row(work, row, Plain::Or, l, r, cols),
-        Entry::And(l, r) => plain_row(work, row, Plain::And, l, r, cols),
-        Entry::Since(l, r) => since_row(work, row, l, r, cols),
-        Entry::Until(l, r) => {
-            let start = prefix.len() + lap * height(words, r, Side::Past);
-            until_row(work, row, l, r, cols, lap, start)
-        }
+        Entry::One(_, l) => plain_row(work, row, Plain::Not, l, l, cols),
+        Entry::Two(op, l, r) => match op {
+            Binary::Or => plain_row(work, row, Plain::Or, l, r, cols),
+            Binary::And => plain_row(work, row, Plain::And, l, r, cols),
+            Binary::Since => since_row(work, row, l, r, cols),
+            Binary::Until => {
+                let start = prefix.len() + lap * height(words, r, Side::Past);
+                until_row(work, row, l, r, cols, lap, start)
+            }
+        },
         Entry::Broken => atom_row(prefix, again, work, row, 0, cols),
     }
 }
 
 // Every row up to the asked entry, whatever the slice held before.
-pub fn fill<'a>(prefix: &'a [u32], again: &'a [u32], words: &[u32], work: &mut [u16], entry: usize)
-    requires { ⌜ Limited (length (now prefix)) (length (now again)) (now words) entry (length (now work)) ⌝ }
-    ensures { λ _. ⌜ Fills (scheduleFrame (now (prefix .entry)) (now (again .entry))) (now (words .entry)) (length (now (again .entry))) (suc entry) (now (work .entry)) (now (work .exit)) ⌝ }
+pub fn fill<'a>(
+    prefix: &'a [u32],
+    again: &'a [u32],
+    words: &[u32],
+    work: &mut [u16],
+    entry: usize,
+    reach: usize,
+)
+    requires { ⌜ Limited (length (now prefix)) (length (now again)) reach (now words) entry (length (now work)) ⌝ }
+    ensures { λ _. ⌜ Fills ones (scheduleFrame (now (prefix .entry)) (now (again .entry))) (now (words .entry)) reach (length (now (again .entry))) (suc entry) (now (work .entry)) (now (work .exit)) ⌝ }
 {
     let mut row = 0;
     while row <= entry {
-        fill_row(prefix, again, words, work, row);
+        fill_row(prefix, again, words, work, row, reach);
         row = row + 1;
     }
 }

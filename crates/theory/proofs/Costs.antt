@@ -7,7 +7,7 @@ use native.Mathlib.Omega.{arith}
 use Rattle.rules.specs.Formula.{Formula}
 use Rattle.trees.specs.Nodes.{Node}
 use Rattle.trees.specs.Rules.{Frame, Claim, claim, run, Rule}
-use Rattle.trees.specs.Trees.{grown, Forest, none, more}
+use Rattle.trees.specs.Trees.{grown, Forest, none}
 use Rattle.trees.specs.Least.{Cost, costOf}
 use Rattle.trees.specs.declared.Verdict.{Verdict}
 use Rattle.trees.proofs.Order.{cost-append}

@@ -13,24 +13,24 @@ use Rattle.theory.specs.RunCosts.{sumRun}
 use Rattle.theory.proofs.Cuts.{cut-again}
 use Rattle.theory.proofs.Costs.{costs-none, cut-more}
 
-module _ {cost : Cost} {frame : Frame} {f : Formula} {s : Verdict} (size : ℕ → ℕ) where
-  pub run-costs : (from n : ℕ) → ((j : ℕ) → from ≤ j → j < from + n → CutLeast (TreeCosts cost frame (claim f j s)) (size j))
-      → CutLeast (ForestCosts cost frame (run f from n s)) (cut (sumRun size from n))
+module _ {cost : Cost} {frame : Frame} {f : Formula} {s : Verdict} (price : ℕ → ℕ) where
+  pub run-costs : (from n : ℕ) → ((j : ℕ) → from ≤ j → j < from + n → CutLeast (TreeCosts cost frame (claim f j s)) (price j))
+      → CutLeast (ForestCosts cost frame (run f from n s)) (cut (sumRun price from n))
   run-costs from zero each = costs-none
   run-costs from (suc n) each = subst (CutLeast (ForestCosts cost frame (run f from (suc n) s)))
-      (cut-again (size from) (sumRun size (suc from) n))
+      (cut-again (price from) (sumRun price (suc from) n))
       (cut-more (run f (suc from) n s)
       (each from (omega arith) (omega arith))
       (run-costs (suc from) n (λ j ge lt. each j (omega arith) (omega arith))))
 
-module _ (size : ℕ → ℕ) where
-  pub run-grown : (from n : ℕ) → sumRun size from (suc n) ≡ sumRun size from n + size (from + n)
-  run-grown from zero = omega (arith, ap size (add-zero from))
-  run-grown from (suc n) = let at : size (suc from + n) ≡ size (from + suc n) = ap size (omega arith) in omega (arith, run-grown (suc from) n, at)
+module _ (price : ℕ → ℕ) where
+  pub run-grown : (from n : ℕ) → sumRun price from (suc n) ≡ sumRun price from n + price (from + n)
+  run-grown from zero = omega (arith, ap price (add-zero from))
+  run-grown from (suc n) = let at : price (suc from + n) ≡ price (from + suc n) = ap price (omega arith) in omega (arith, run-grown (suc from) n, at)
 
-  pub run-slid : (from n : ℕ) → sumRun size (suc from) n + size from ≡ sumRun size from n + size (from + n)
+  pub run-slid : (from n : ℕ) → sumRun price (suc from) n + price from ≡ sumRun price from n + price (from + n)
   run-slid from n = omega (arith, run-grown from n)
 
-  pub run-bound : ((j : ℕ) → size j ≤ cutOff) → (from n : ℕ) → sumRun size from n ≤ cutOff * n
+  pub run-bound : ((j : ℕ) → price j ≤ cutOff) → (from n : ℕ) → sumRun price from n ≤ cutOff * n
   run-bound bound from zero = omega arith
   run-bound bound from (suc n) = omega (arith, bound from, run-bound bound (suc from) n)

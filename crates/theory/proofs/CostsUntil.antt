@@ -1,7 +1,7 @@
 -- What trees of an until cost, from each position to the one before: those with a witness before a top, and with a top past the window all of them.
 -- Assumes nothing.
 use Prim.Native.Nat.{ℕ, zero, suc, _+_, _-_, _<_, _≤_, min}
-use mathlib.Core.Path.{_≡_, refl, subst}
+use mathlib.Core.Path.{_≡_, refl, sym, subst, _∙_}
 use mathlib.Core.Logic.{_⊎_, inl, inr, ⊎-elim}
 use mathlib.Core.List.{List, [], _∷_}
 use native.Mathlib.Nat.{zero-add, suc-add, add-zero, add-suc}
@@ -16,15 +16,14 @@ use Rattle.trees.specs.Least.{Cost, costOf}
 use Rattle.trees.specs.declared.Verdict.{Verdict}
 use Rattle.trees.specs.declared.Verdict.the-variants.{Holds, Violated}
 use Rattle.trees.proofs.Order.{at-cost}
-use Rattle.theory.specs.Words.{Repeats}
 use Rattle.theory.specs.Threshold.{windowEnd}
-use Rattle.theory.specs.Repeating.{repeatFrame}
 use Rattle.theory.specs.Level.{Level}
 use Rattle.theory.specs.Costs.{TreeCosts, ForestCosts, CutLeast, Sum, Raised, cut, cutOff}
 use Rattle.theory.specs.UntilCosts.{WitnessBefore, HoldsBefore, CutBefore}
 use Rattle.theory.proofs.Cuts.{cut-same, cut-none, cut-or, cut-sum, cut-raised}
 use Rattle.theory.proofs.Costs.{costs-joined, costs-parted, alone-costs, costs-alone, cut-alone, cut-more, costs-grown, costs-root}
-use Rattle.theory.proofs.Horizon.{InWindow, inside}
+use Rattle.theory.proofs.Horizon.{InWindow}
+use Rattle.theory.proofs.Windowed.{Windowed}
 
 -- a claim aside, or in the second place
 module _ {cost : Cost} {frame : Frame} {c d : Claim} (cs : List Claim) (n : ℕ) where
@@ -103,9 +102,9 @@ module _ {cost : Cost} {frame : Frame} {f g : Formula} {top i a b x : ℕ} where
       (witness-step lt (cut-more (claim g i Violated ∷ []) left (cut-alone right)) right on)
 
 -- a root inside the window has its witness before the top
-module _ {cost : Cost} {word : ℕ → ℕ} {u v : ℕ} {f g : Formula} {top i : ℕ} (le : windowEnd u v g i ≤ top) where
-  holds-near : {x : Node} {ws : List Node} → Tree (repeatFrame word u v) (claim (until f g) i Holds) (x ∷ ws)
-      → InWindow u v (claim (until f g) i Holds) x → HoldsBefore cost (repeatFrame word u v) f g top i (costOf cost (x ∷ ws))
+module _ {cost : Cost} {frame : Frame} {u v reach : ℕ} (w : Windowed frame u v reach) {f g : Formula} {top i : ℕ} (le : windowEnd u v g i ≤ top) where
+  holds-near : {x : Node} {ws : List Node} → Tree frame (claim (until f g) i Holds) (x ∷ ws)
+      → InWindow u v (claim (until f g) i Holds) x → HoldsBefore cost frame f g top i (costOf cost (x ∷ ws))
   holds-near (grown {ws} (rule14 {n}) fs) near = record {
     far = n;
     near = omega (arith, near .ahead refl, le);
@@ -114,10 +113,10 @@ module _ {cost : Cost} {word : ℕ → ℕ} {u v : ℕ} {f g : Formula} {top i :
     adds = refl;
   }
 
-  violated-near : {x : Node} {ws : List Node} → Tree (repeatFrame word u v) (claim (until f g) i Violated) (x ∷ ws)
+  violated-near : {x : Node} {ws : List Node} → Tree frame (claim (until f g) i Violated) (x ∷ ws)
       → InWindow u v (claim (until f g) i Violated) x
-      → CutBefore cost (repeatFrame word u v) f g top i (costOf cost (x ∷ ws))
-      ⊎ Raised (cost .weigh 16 0) (ForestCosts cost (repeatFrame word u v) (run g i (windowCount u v i (height Past g)) Violated)) (costOf cost (x ∷ ws))
+      → CutBefore cost frame f g top i (costOf cost (x ∷ ws))
+      ⊎ Raised (cost .weigh 16 0) (ForestCosts cost frame (run g i (windowCount u v i (height Past g)) Violated)) (costOf cost (x ∷ ws))
   violated-near (grown {ws} (rule15 {n} some) fs) near =
       let place : i + (n - 1) ≡ i + n - 1 = omega arith in
       let count : 1 + (n - 1) ≡ n = omega arith in
@@ -128,7 +127,7 @@ module _ {cost : Cost} {word : ℕ → ℕ} {u v : ℕ} {f g : Formula} {top i :
         below = record { nodes = ws; forest = rw (place, count) fs; costs = refl };
         adds = refl;
       }
-  violated-near (grown {x} (rule16 e) fs) near = inr (costs-root x _ (rw e at fs) refl)
+  violated-near (grown {x} (rule16 e) fs) near = inr (costs-root x _ (rw (e ∙ w .counts i (height Past g)) at fs) refl)
 
 module _ {cost : Cost} {frame : Frame} {f g : Formula} {top i : ℕ} (n : ℕ) where
   holds-grown : HoldsBefore cost frame f g top i n → TreeCosts cost frame (claim (until f g) i Holds) n
@@ -140,24 +139,24 @@ module _ {cost : Cost} {frame : Frame} {f g : Formula} {top i : ℕ} (n : ℕ) w
       costs-grown (rule15 {n = 1 + a .far} (omega arith)) n record { from = a .from; one = rw place (a .below); adds = a .adds }
 
 -- No tree is cheaper than those with a witness inside the window.
-module _ {cost : Cost} (lv : Level cost) {word : ℕ → ℕ} {u v : ℕ} (w : Repeats word u v) {f g : Formula} {top i : ℕ} where
+module _ {cost : Cost} (lv : Level cost) {frame : Frame} {u v reach : ℕ} (w : Windowed frame u v reach) {f g : Formula} {top i : ℕ} where
   pub until-holds : {p : ℕ} → windowEnd u v g i ≤ top
-      → CutLeast (HoldsBefore cost (repeatFrame word u v) f g top i) p
-      → CutLeast (TreeCosts cost (repeatFrame word u v) (claim (until f g) i Holds)) p
+      → CutLeast (HoldsBefore cost frame f g top i) p
+      → CutLeast (TreeCosts cost frame (claim (until f g) i Holds)) p
   until-holds le a = record {
     top = a .top;
-    under = λ n t. let b = inside lv w (t .tree) in omega (arith, a .under _ (holds-near le (b .tree) (b .near)), at-cost (b .before), t .costs);
+    under = λ n t. let b = w .near cost lv _ _ (t .tree) in omega (arith, a .under _ (holds-near w le (b .tree) (b .near)), at-cost (b .before), t .costs);
     met = λ h. holds-grown _ (a .met h);
   }
 
   pub until-violated : {q r : ℕ} → windowEnd u v g i ≤ top
-      → CutLeast (CutBefore cost (repeatFrame word u v) f g top i) q
-      → CutLeast (ForestCosts cost (repeatFrame word u v) (run g i (windowCount u v i (height Past g)) Violated)) r
-      → CutLeast (TreeCosts cost (repeatFrame word u v) (claim (until f g) i Violated)) (min q (cut (cost .weigh 16 0 + r)))
+      → CutLeast (CutBefore cost frame f g top i) q
+      → CutLeast (ForestCosts cost frame (run g i (windowCount u v i (height Past g)) Violated)) r
+      → CutLeast (TreeCosts cost frame (claim (until f g) i Violated)) (min q (cut (cost .weigh 16 0 + r)))
   until-violated le a c =
       let both = cut-or a (cut-raised (cost .weigh 16 0) c) in
       record {
         top = both .top;
-        under = λ n t. let b = inside lv w (t .tree) in omega (arith, both .under _ (violated-near le (b .tree) (b .near)), at-cost (b .before), t .costs);
-        met = λ h. ⊎-elim (violated-grown _) (costs-grown (rule16 refl) _) (both .met h);
+        under = λ n t. let b = w .near cost lv _ _ (t .tree) in omega (arith, both .under _ (violated-near w le (b .tree) (b .near)), at-cost (b .before), t .costs);
+        met = λ h. ⊎-elim (violated-grown _) (costs-grown (rule16 (sym (w .counts i (height Past g)))) _) (both .met h);
       }

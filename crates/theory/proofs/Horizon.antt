@@ -3,27 +3,32 @@
 use Prim.Native.Nat.{ℕ, zero, suc, _+_, _-_, _<_, _≤_}
 use mathlib.Core.Path.{_≡_, refl}
 use mathlib.Core.Logic.{by-cases}
-use mathlib.Core.List.{List, _∷_, head-eq-of-cons-eq}
+use mathlib.Core.List.{List, _∷_}
 use native.Mathlib.Decide.{decLe, decLt}
 use native.Mathlib.Omega.{arith}
 use Rattle.rules.specs.Formula.{Formula, until, height}
 use Rattle.rules.specs.declared.Side.the-variants.{Past}
 use Rattle.trees.specs.Nodes.{Node, node}
-use Rattle.trees.specs.Rules.{Frame, Claim, claim, run, Rule}
-use Rattle.trees.specs.Rules.{rule1, rule2, rule3, rule4, rule5, rule6, rule7, rule8}
-use Rattle.trees.specs.Rules.{rule9, rule10, rule11, rule12, rule13, rule14, rule15, rule16}
+use Rattle.trees.specs.Rules.{Frame, Claim, claim, run, Rule, rule14, rule15, rule16}
 use Rattle.trees.specs.Trees.{Tree, grown, Forest, more}
 use Rattle.trees.specs.Frames.{windowCount}
-use Rattle.trees.specs.Least.{Cost, ones, AtOrBefore, cheaper, Least}
+use Rattle.trees.specs.Least.{Cost, ones, AtOrBefore, cheaper}
 use Rattle.trees.specs.declared.Verdict.the-variants.{Holds, Violated}
 use Rattle.trees.proofs.Needs.{formulaRight}
-use Rattle.trees.proofs.Order.{cost-append, at-reflexive, at-transitive, at-antisymmetric}
+use Rattle.trees.proofs.Shapes.{ahead, cut, through, Shape, behind, looks, shape-of}
+use Rattle.trees.proofs.Order.{cost-append, at-reflexive, at-transitive}
 use Rattle.theory.specs.Words.{Repeats}
 use Rattle.theory.specs.Threshold.{windowEnd}
 use Rattle.theory.specs.Repeating.{repeatFrame}
-use Rattle.theory.specs.Level.{Level}
+use Rattle.theory.specs.Level.{Level, ByAtoms}
 use Rattle.theory.proofs.Saves.{AllSave, tree-cost, more-saves, cut-saves, at-least}
 use Rattle.theory.proofs.Laps.{lap-earlier}
+
+pub atoms-level : {cost : Cost} {weight : ℕ → ℕ} → ByAtoms cost weight → Level cost
+atoms-level k = record { level = omega (arith, k .other 16 (omega arith), k .other 15 (omega arith)) }
+
+pub ones-atoms : ByAtoms ones (λ a. 1)
+ones-atoms = record { held = λ a. refl; violated = λ a. refl; other = λ r le. refl }
 
 pub ones-level : Level ones
 ones-level = omega arith
@@ -88,27 +93,13 @@ module _ {cost : Cost} {word : ℕ → ℕ} {u v : ℕ} (w : Repeats word u v) {
       within-later (within-itself (rule16 refl) (a .forest) (omega arith)) (cheaper (omega arith)))
 
 module _ {cost : Cost} (lv : Level cost) {word : ℕ → ℕ} {u v : ℕ} (w : Repeats word u v) where
-  pub inside : {c : Claim} {ws : List Node} → Tree (repeatFrame word u v) c ws → Within cost (repeatFrame word u v) (InWindow u v c) c ws
-  inside (grown (rule1 h) fs) = within-itself (rule1 h) fs (omega arith)
-  inside (grown (rule2 h) fs) = within-itself (rule2 h) fs (omega arith)
-  inside (grown rule3 fs) = within-itself rule3 fs (omega arith)
-  inside (grown rule4 fs) = within-itself rule4 fs (omega arith)
-  inside (grown rule5 fs) = within-itself rule5 fs (omega arith)
-  inside (grown rule6 fs) = within-itself rule6 fs (omega arith)
-  inside (grown rule7 fs) = within-itself rule7 fs (omega arith)
-  inside (grown rule8 fs) = within-itself rule8 fs (omega arith)
-  inside (grown rule9 fs) = within-itself rule9 fs (omega arith)
-  inside (grown rule10 fs) = within-itself rule10 fs (omega arith)
-  inside (grown (rule11 h) fs) = within-itself (rule11 h) fs (omega arith)
-  inside (grown (rule12 h k) fs) = within-itself (rule12 h k) fs (omega arith)
-  inside (grown (rule13 h) fs) = within-itself (rule13 h) fs (omega arith)
-  inside (grown (rule14 {i} {n}) fs) = holds-inside w i (suc n) n (omega arith) fs
-  inside (grown (rule15 {i} {n} some) fs) = violated-inside w i lv n some fs
-  inside (grown (rule16 h) fs) = within-itself (rule16 h) fs (omega arith)
+  root-inside : {c : Claim} {x : Node} {needs : List Claim} {ws : List Node}
+      → Rule (repeatFrame word u v) c x needs → Shape (repeatFrame word u v) c x needs
+      → Forest (repeatFrame word u v) needs ws → Within cost (repeatFrame word u v) (InWindow u v c) c (x ∷ ws)
+  root-inside r (behind fixed h k m from n t b) fs = within-itself r fs (omega (arith, b .rule))
+  root-inside r (looks (ahead {i} {n})) fs = holds-inside w i (suc n) n (omega arith) fs
+  root-inside r (looks (cut {i} {n} some)) fs = violated-inside w i lv n some fs
+  root-inside r (looks (through e)) fs = within-itself r fs (omega arith)
 
-  -- so the root of a least tree looks no further
-  pub least-inside : {f : Formula} {i : ℕ} {x : Node} {ws : List Node} (l : Least cost (repeatFrame word u v) f i (x ∷ ws))
-      → InWindow u v (claim f i (l .verdict)) x
-  least-inside l =
-      let a = inside (l .valid) in
-      rw (head-eq-of-cons-eq (at-antisymmetric (a .before) (l .least (l .verdict) _ (a .tree)))) at (a .near)
+  pub inside : {c : Claim} {ws : List Node} → Tree (repeatFrame word u v) c ws → Within cost (repeatFrame word u v) (InWindow u v c) c ws
+  inside (grown r fs) = root-inside r (shape-of r) fs

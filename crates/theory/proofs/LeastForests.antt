@@ -36,11 +36,11 @@ module _ {cost : Cost} {frame : Frame} where
       at-antisymmetric (least-forest-first ls (least-forest-valid ms)) (least-forest-first ms (least-forest-valid ls))
 
   -- so the parts of a root cost the sum of the least costs
-  pub least-forest-cost : (size : Claim → ℕ) → ((c : Claim) (ws : List Node) → LeastFor cost frame c ws → costOf cost ws ≡ size c)
-      → {cs : List Claim} {ws : List Node} → LeastForest cost frame cs ws → costOf cost ws ≡ sumOver size cs
-  least-forest-cost size sized noLeast = refl
-  least-forest-cost size sized (nextLeast {c} {ws} {vs} l ls) =
-      omega (arith, sized c ws l, least-forest-cost size sized ls, cost-append cost ws vs)
+  pub least-forest-cost : (price : Claim → ℕ) → ((c : Claim) (ws : List Node) → LeastFor cost frame c ws → costOf cost ws ≡ price c)
+      → {cs : List Claim} {ws : List Node} → LeastForest cost frame cs ws → costOf cost ws ≡ sumOver price cs
+  least-forest-cost price priced noLeast = refl
+  least-forest-cost price priced (nextLeast {c} {ws} {vs} l ls) =
+      omega (arith, priced c ws l, least-forest-cost price priced ls, cost-append cost ws vs)
 
 -- Where a claim has a tree, no tree has the other verdict: so the first of its own trees is the first of all.
 module _ {frame : Frame} (law : Lawful frame) {f : Formula} {i : ℕ} where

@@ -12,12 +12,8 @@ use Rattle.trees.specs.declared.Verdict.{Verdict}
 use Rattle.trees.proofs.Needs.{needs-one, rule-sign, sign-one}
 use Rattle.trees.proofs.Order.{at-later, at-antisymmetric}
 use Rattle.theory.specs.Frames.{Lawful}
-use Rattle.theory.specs.Words.{Repeats}
-use Rattle.theory.specs.Repeating.{repeatFrame}
 use Rattle.theory.specs.LeastForests.{LeastFor, LeastForest, noLeast, nextLeast}
-use Rattle.theory.proofs.Sound.{repeats-lawful}
 use Rattle.theory.proofs.LeastForests.{least-for, least-forest-valid, least-forest-first, same-verdict}
-use Rattle.theory.proofs.LeastExists.{least-exists}
 
 -- The root of a tree, its rule, and its parts, all of them least.
 pub record LeastBelow (cost : Cost) (frame : Frame) (c : Claim) (x : Node) (ws : List Node) : Type 0 where
@@ -59,13 +55,3 @@ module _ {cost : Cost} {frame : Frame} (law : Lawful frame) (exists : (f : Formu
       let b = least-below l in
       let same : l .verdict ≡ s = sign-one (rule-sign (b .rule) ∙ sym (rule-sign r)) in
       below-given (rw same at b) r
-
-module _ {cost : Cost} {word : ℕ → ℕ} {u v : ℕ} (w : Repeats word u v) where
-  pub repeats-least-below : {f : Formula} {i : ℕ} {x : Node} {ws : List Node} (l : Least cost (repeatFrame word u v) f i (x ∷ ws))
-      → LeastBelow cost (repeatFrame word u v) (claim f i (l .verdict)) x ws
-  repeats-least-below = least-below (repeats-lawful w) (least-exists cost w)
-
-  pub repeats-least-parts : {f : Formula} {i : ℕ} {s : Verdict} {x : Node} {needs : List Claim} {ws : List Node}
-      → Rule (repeatFrame word u v) (claim f i s) x needs → Least cost (repeatFrame word u v) f i (x ∷ ws)
-      → LeastForest cost (repeatFrame word u v) needs ws
-  repeats-least-parts = least-parts (repeats-lawful w) (least-exists cost w)

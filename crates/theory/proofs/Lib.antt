@@ -18,6 +18,7 @@ pub mod Roots
 pub mod Best
 pub mod LeastExists
 pub mod LeastParts
+pub mod Windowed
 pub mod LeastRoot
 pub mod Cols
 pub mod LeastNodes
@@ -29,4 +30,4 @@ pub mod CostsRuns
 pub mod CostsPlain
 pub mod CostsSince
 pub mod CostsUntil
-pub mod Sizes
+pub mod Prices

@@ -3,7 +3,7 @@
 use Prim.Native.Nat.{ℕ, zero, suc, _+_, _<_, _≤_}
 use mathlib.Core.Path.{subst}
 use mathlib.Core.Logic.{by-cases}
-use mathlib.Core.List.{List, [], _∷_}
+use mathlib.Core.List.{List, [], _∷_, _++_}
 use native.Mathlib.Decide.{decLe}
 use native.Mathlib.Omega.{arith}
 use Rattle.rules.specs.Formula.{Formula}
@@ -13,6 +13,10 @@ use Rattle.trees.specs.declared.Verdict.{Verdict}
 pub data Each (P : Claim → Type 0) : List Claim → Type 0 where
   nothing : Each P []
   also : {c : Claim} {cs : List Claim} → P c → Each P cs → Each P (c ∷ cs)
+
+pub each-both : {P : Claim → Type 0} {cs ds : List Claim} → Each P cs → Each P ds → Each P (cs ++ ds)
+each-both nothing qs = qs
+each-both (also p ps) qs = also p (each-both ps qs)
 
 module _ {P : Claim → Type 0} (f : Formula) (v : Verdict) where
   pub each-run : (from n : ℕ) → Each P (run f from n v) → (k : ℕ) → from ≤ k → k < from + n → P (claim f k v)

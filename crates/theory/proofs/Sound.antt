@@ -1,4 +1,4 @@
--- A valid tree has the verdict of the meaning, whatever its size and however far off its witnesses.
+-- A valid tree has the verdict of the meaning, whatever its price and however far off its witnesses.
 -- Assumes nothing.
 use Prim.Native.Nat.{ℕ, _+_, _-_, _<_}
 use mathlib.Core.Logic.{inl, inr, ⊎-elim, by-cases}

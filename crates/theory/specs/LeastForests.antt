@@ -19,5 +19,5 @@ pub data LeastForest (cost : Cost) (frame : Frame) : List Claim → List Node �
 
 -- What the claims of a list cost together, by what each of them costs.
 abbrev pub sumOver : (Claim → ℕ) → List Claim → ℕ
-sumOver size [] = 0
-sumOver size (c ∷ cs) = size c + sumOver size cs
+sumOver price [] = 0
+sumOver price (c ∷ cs) = price c + sumOver price cs

@@ -11,4 +11,4 @@ pub mod Costs
 pub mod RunCosts
 pub mod SinceCosts
 pub mod UntilCosts
-pub mod Sizes
+pub mod Prices

@@ -1,7 +1,8 @@
 -- Two results that meet a public function's contract coincide.
 -- Assumes nothing.
 use Prim.Native.Nat.{ℕ}
-use mathlib.Core.Path.{_≡_, sym, ap, _∙_}
+use mathlib.Core.Path.{_≡_, refl, sym, ap, _∙_}
+use mathlib.Core.Bool.{Bool}
 use mathlib.Core.List.{List, []}
 use native.Mathlib.Omega.{arith}
 use lib.ListN.{length, drop}
@@ -10,7 +11,7 @@ use Rattle.schedule.proofs.Determined.{equal-one}
 use Rattle.trees.specs.Nodes.{Node}
 use Rattle.trees.specs.Rules.{Frame, Claim}
 use Rattle.trees.specs.Plans.{claimedBy}
-use Rattle.trees.specs.Walks.{Walks}
+use Rattle.trees.specs.Walks.{Tested, fits, unfit, Walks}
 use Rattle.trees.specs.declared.Verdict.{Verdict}
 use Rattle.trees.specs.declared.Step.{Step}
 use Rattle.trees.specs.declared.Step.the-variants.{Next, Bad}
@@ -20,6 +21,12 @@ use Rattle.trees.proofs.Walked.{slice-drop}
 
 pub claimed-one : (word : ℕ) (a b : Verdict) → a ≡ claimedBy word → b ≡ claimedBy word → a ≡ b
 claimed-one word a b p q = equal-one p q
+
+pub tested-one : {frame : Frame} {c : Claim} {x : Node} (a b : Bool) → Tested frame c x a → Tested frame c x b → a ≡ b
+tested-one a b (fits r) (fits s) = refl
+tested-one a b (fits r) (unfit n) = absurd (n _ r)
+tested-one a b (unfit n) (fits s) = absurd (n _ s)
+tested-one a b (unfit n) (unfit m) = refl
 
 module _ (frame : Frame) (c : Claim) (nodes : List Node) (at : ℕ) where
   -- both trees begin the words from the place on, so neither is longer

@@ -1,7 +1,7 @@
--- A rule that fits an entry has its kind and the needed sign; and where kind and sign fit, the entry's formula has the rule's form.
+-- A rule that fits an entry has its kind and the needed sign; where kind and sign fit, the entry's formula has the rule's form.
 -- Assumes nothing.
 use mathlib.Core.Path.{_≡_, refl, sym, ap, subst₂, _∙_}
-use mathlib.Core.Bool.{true}
+use mathlib.Core.Bool.{Bool, true, false, true≢false, false≢true}
 use mathlib.Core.List.{List}
 use Prim.Native.Nat.{ℕ}
 use borrow.Author.Tests.{eq-eqb, eqb-true}
@@ -9,24 +9,28 @@ use lib.Dec.{eqb}
 use Rattle.rules.specs.Formula.{Formula}
 use Rattle.rules.specs.Tables.{entryAt, build, formulaOf}
 use Rattle.rules.specs.declared.Entry.{Entry}
-use Rattle.rules.specs.declared.Entry.the-variants.{Atom as AtomEntry, Not, Or, And, Since, Until, Broken}
+use Rattle.rules.specs.declared.Entry.the-variants.{Atom as AtomEntry, One, Two, Broken}
+use Rattle.rules.specs.declared.Unary.the-variants.{Not}
+use Rattle.rules.specs.declared.Binary.the-variants.{Or, And, Since, Until}
 use Rattle.rules.proofs.Entries.{and-both}
 use Rattle.rules.proofs.Unrolls.{formula-unrolls}
 use Rattle.trees.specs.Nodes.{Node}
 use Rattle.trees.specs.Rules.{Frame, Claim, claim, Rule}
 use Rattle.trees.specs.Table.{ruleSign, ruleKind}
 use Rattle.trees.specs.Plans.{kindOf, leftOf, rightOf, signOf, fitsOf}
+use Rattle.trees.specs.Place.{Wrong}
+use Rattle.trees.specs.Walks.{Tested, fits, unfit}
 use Rattle.trees.specs.declared.Verdict.{Verdict}
 use Rattle.trees.proofs.Parts.{byKind, formula-kind}
 use Rattle.trees.proofs.Needs.{formulaKind, rule-kind, rule-sign, sign-one}
 
 kind-built : (part : ℕ → Formula) (x : Entry) → formulaKind (build part x) ≡ kindOf x
 kind-built part (AtomEntry a) = refl
-kind-built part (Not l) = refl
-kind-built part (Or l r) = refl
-kind-built part (And l r) = refl
-kind-built part (Since l r) = refl
-kind-built part (Until l r) = refl
+kind-built part (One Not l) = refl
+kind-built part (Two Or l r) = refl
+kind-built part (Two And l r) = refl
+kind-built part (Two Since l r) = refl
+kind-built part (Two Until l r) = refl
 kind-built part Broken = refl
 
 pub fits-says : (k : ℕ) (x : Entry) (s : Verdict) → fitsOf k x s ≡ true → (ruleKind k ≡ kindOf x) × (ruleSign k ≡ signOf s)
@@ -50,3 +54,18 @@ module _ (table : List ℕ) (e i : ℕ) (s : Verdict) where
   at-kind k t P h se p =
       let says = fits-says k (entryAt table e) s h in
       subst₂ P (sym (formula-kind table e (ruleKind k) (sym (says .0)))) (sign-one (sym se ∙ says .1)) p
+
+-- a test that passes where a rule fits, and only there
+pub tested-by : {frame : Frame} {c : Claim} {x : Node} (b : Bool) → (b ≡ true → (needs : List Claim) × Rule frame c x needs)
+    → ((needs : List Claim) → Rule frame c x needs → b ≡ true) → Tested frame c x b
+tested-by true forth back = fits (forth refl .1)
+tested-by false forth back = unfit (λ needs r. false≢true (back needs r))
+
+-- what a test that passed says, and one that failed
+pub tested-rule : {frame : Frame} {c : Claim} {x : Node} {b : Bool} → b ≡ true → Tested frame c x b → (needs : List Claim) × Rule frame c x needs
+tested-rule e (fits {needs} r) = (needs, r)
+tested-rule e (unfit n) = absurd (false≢true e)
+
+pub tested-wrong : {frame : Frame} {c : Claim} {x : Node} {b : Bool} → b ≡ false → Tested frame c x b → Wrong frame c x
+tested-wrong e (fits r) = absurd (true≢false e)
+tested-wrong e (unfit n) = n

@@ -1,7 +1,7 @@
--- The plan of rules 1 and 2 is right: a leaf where atom, position and letter are the claim's, else wrong.
+-- The test of rules 1 and 2 is right: it passes where atom, position and letter are the claim's.
 -- Assumes nothing.
 use mathlib.Core.Path.{_≡_, refl, sym, ap, subst, subst₂, _∙_}
-use mathlib.Core.Bool.{true, _&&_, false≢true}
+use mathlib.Core.Bool.{Bool, true, _&&_}
 use mathlib.Core.List.{List, []}
 use Prim.Native.Nat.{ℕ, _-_, _/_, _%_, _^_, _≤_}
 use native.Mathlib.Omega.{arith}
@@ -9,18 +9,18 @@ use borrow.Author.Tests.{eq-eqb, eqb-true}
 use lib.Dec.{eqb}
 use Rattle.rules.specs.Formula.{atom}
 use Rattle.rules.specs.Tables.{entryAt, formulaOf}
-use Rattle.rules.proofs.Entries.{cond-elim, and-both}
+use Rattle.rules.proofs.Entries.{and-both}
 use Rattle.trees.specs.Nodes.{node}
 use Rattle.trees.specs.Rules.{Frame, Claim, claim, Rule, rule1, rule2}
 use Rattle.trees.specs.Table.{ruleSign, ruleKind}
-use Rattle.trees.specs.Plans.{leftOf, fitsOf, leaf, atomPlan}
-use Rattle.trees.specs.Walks.{Judges, Earlier}
+use Rattle.trees.specs.Plans.{leftOf, fitsOf, atomFits}
+use Rattle.trees.specs.Walks.{Tested}
 use Rattle.trees.specs.declared.Verdict.{Verdict}
 use Rattle.trees.specs.declared.Verdict.the-variants.{Holds, Violated}
 use Rattle.trees.proofs.Table.{peel}
 use Rattle.trees.proofs.Parts.{formula-kind}
 use Rattle.trees.proofs.Needs.{formulaAtom, rule-numbers}
-use Rattle.trees.proofs.Judged.{fits-says, rule-fits, at-kind}
+use Rattle.trees.proofs.Judged.{fits-says, rule-fits, at-kind, tested-by}
 
 module _ (frame : Frame) (table : List ℕ) (e i : ℕ) (s : Verdict) (a n : ℕ) where
   -- what is asked of atom, position and letter
@@ -85,29 +85,34 @@ module _ (frame : Frame) (table : List ℕ) (e i : ℕ) (s : Verdict) (a n : ℕ
     passed : (k : ℕ) → 1 ≤ k → k ≤ 2 → Passed k
     passed k low high = peel Passed 1 k low passed-1 (λ l. peel Passed 2 k l passed-2 (λ l. absurd (omega arith)))
 
-  near : Earlier e i (leaf s)
-  near = record { one = omega arith; first = λ c. absurd (omega arith); place = omega arith; member = λ c. absurd (omega arith); last = omega arith }
-
-  pub judged-atom : (k : ℕ) → 1 ≤ k → k ≤ 2 → Judges frame table e i s (node k a n) (atomPlan (frame .letter i) (entryAt table e) i s k a n)
-  unfolding atomPlan Right Passed
-  judged-atom k low high =
-      cond-elim (Judges frame table e i s (node k a n)) (fitsOf k (entryAt table e) s && eqb a (leftOf (entryAt table e)))
-      (λ h.
-      let first = and-both (fitsOf k (entryAt table e) s) (eqb a (leftOf (entryAt table e))) h in
-      cond-elim (Judges frame table e i s (node k a n)) (eqb n i && eqb (frame .letter i / 2 ^ a % 2) (2 - ruleSign k))
-      (λ g.
-      let second = and-both (eqb n i) (eqb (frame .letter i / 2 ^ a % 2) (2 - ruleSign k)) g in (
-        right (first .0) (record {
-          named = eqb-true a (leftOf (entryAt table e)) (first .1);
-          placed = eqb-true n i (second .0);
-          lettered = eqb-true (frame .letter i / 2 ^ a % 2) (2 - ruleSign k) (second .1);
-        }),
-        near,
-      ))
-      (λ g needs r.
-      let told = passed needs k low high r in
-      false≢true (sym g ∙ simp (eq-eqb n i (told .placed), eq-eqb (frame .letter i / 2 ^ a % 2) (2 - ruleSign k) (told .lettered)))))
-      (λ h needs r. false≢true (sym h ∙ simp (rule-fits table e i s r, eq-eqb a (leftOf (entryAt table e)) (passed needs k low high r .named))))
+  pub judged-atom : (k : ℕ) → 1 ≤ k → k ≤ 2
+      → Tested frame (claim (formulaOf table e) i s) (node k a n) (atomFits (frame .letter i) (entryAt table e) i s k a n)
+  unfolding atomFits Right Passed
+  judged-atom k low high = tested-by _ (λ t. ([], forth t)) (λ needs r. back (passed needs k low high r) (rule-fits table e i s r))
     where
       right : Right k
       right = peel Right 1 k low right-1 (λ l. peel Right 2 k l right-2 (λ l. absurd (omega arith)))
+
+      named : Bool
+      named = eqb a (leftOf (entryAt table e))
+
+      placed : Bool
+      placed = eqb n i
+
+      lettered : Bool
+      lettered = eqb (frame .letter i / 2 ^ a % 2) (2 - ruleSign k)
+
+      forth : (fitsOf k (entryAt table e) s && (named && (placed && lettered))) ≡ true → Rule frame (claim (formulaOf table e) i s) (node k a n) []
+      forth t =
+          let first = and-both (fitsOf k (entryAt table e) s) (named && (placed && lettered)) t in
+          let second = and-both named (placed && lettered) (first .1) in
+          let third = and-both placed lettered (second .1) in
+          right (first .0) (record {
+            named = eqb-true a (leftOf (entryAt table e)) (second .0);
+            placed = eqb-true n i (third .0);
+            lettered = eqb-true (frame .letter i / 2 ^ a % 2) (2 - ruleSign k) (third .1);
+          })
+
+      back : Told k → fitsOf k (entryAt table e) s ≡ true → (fitsOf k (entryAt table e) s && (named && (placed && lettered))) ≡ true
+      back told f =
+          simp (f, eq-eqb a (leftOf (entryAt table e)) (told .named), eq-eqb n i (told .placed), eq-eqb (frame .letter i / 2 ^ a % 2) (2 - ruleSign k) (told .lettered))

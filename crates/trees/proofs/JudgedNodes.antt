@@ -1,29 +1,32 @@
--- The plan of a written word is right, by the word's case.
+-- The test of a written word is right, by the word's case; and what a node asks that a rule fits.
 -- Assumes nothing.
-use mathlib.Core.Path.{_≡_, sym, subst, _∙_}
+use mathlib.Core.Path.{_≡_, refl, sym, subst, _∙_}
+use mathlib.Core.Bool.{Bool, false}
 use mathlib.Core.List.{List}
-use Prim.Native.Nat.{ℕ, _/_, _%_, _<_, _≤_}
+use Prim.Native.Nat.{ℕ, _/_, _%_, _^_, _<_, _≤_}
 use native.Mathlib.Omega.{arith}
 use mathlib.Core.Logic.{by-cases}
 use native.Mathlib.Decide.{decLe}
 use lib.ListN.{length}
 use Rattle.schedule.specs.Letters.{letterAt}
-use Rattle.rules.specs.Tables.{entryAt}
+use Rattle.rules.specs.Tables.{entryAt, formulaOf}
 use Rattle.rules.specs.declared.Entry.{Entry}
-use Rattle.trees.specs.Nodes.{node, nodeOf}
+use Rattle.trees.specs.Nodes.{Node, node, nodeOf}
+use Rattle.trees.specs.Rules.{Claim, claim, Rule}
 use Rattle.trees.specs.Frames.{scheduleFrame}
-use Rattle.trees.specs.Plans.{wordFrom, wordOf, atomPlan, plainPlan, listPlan}
-use Rattle.trees.specs.Walks.{Judges}
+use Rattle.trees.specs.Plans.{wordFrom, wordOf, leftOf, rightOf, fitsOf, atomFits, plainDemands, countDemands, Countable, listFits, demandsOf}
+use Rattle.trees.specs.Walks.{Tested, unfit, Asks}
 use Rattle.trees.specs.declared.Verdict.{Verdict}
 use Rattle.trees.specs.declared.Word.{Word}
 use Rattle.trees.specs.declared.Word.the-variants.{Atom, Plain, Counted, Malformed}
-use Rattle.trees.specs.declared.Plan.{Plan}
-use Rattle.trees.specs.declared.Plan.the-variants.{Wrong}
+use Rattle.trees.specs.declared.Demands.{Demands}
 use Rattle.trees.proofs.Words.{word-says, word-atom, word-plain, word-counted}
+use Rattle.trees.proofs.Plans.{demands-plain, demands-count}
 use Rattle.trees.proofs.Needs.{rule-numbers}
+use Rattle.trees.proofs.Judged.{rule-fits}
 use Rattle.trees.proofs.JudgedAtoms.{judged-atom}
-use Rattle.trees.proofs.JudgedPlain.{judged-plain}
-use Rattle.trees.proofs.JudgedLists.{judged-list}
+use Rattle.trees.proofs.JudgedPlain.{asks-plain, judged-plain}
+use Rattle.trees.proofs.JudgedLists.{asks-count, judged-list}
 
 abbrev IsMalformed : Word → Type 0
 IsMalformed (Atom r a n) = ⊥
@@ -43,42 +46,80 @@ node-is : (w k b m : ℕ) → w / 16777216 ≡ k → w / 65536 % 256 ≡ b → w
 node-is w k b m p q r = λ j. node (sym p j) (sym q j) (sym r j)
 
 module _ (prefix loop table : List ℕ) (e i : ℕ) (s : Verdict) (w : ℕ) where
-  abbrev Right : Plan → Type 0
-  Right = Judges (scheduleFrame prefix loop) table e i s (nodeOf w)
+  abbrev Right : Bool → Type 0
+  Right = Tested (scheduleFrame prefix loop) (claim (formulaOf table e) i s) (nodeOf w)
 
-  pub node-malformed : wordOf w ≡ Malformed → Right Wrong
+  -- the test of a node is that of the word
+  at-node : {b : Bool} (k a n : ℕ) → w / 16777216 ≡ k → w / 65536 % 256 ≡ a → w % 65536 ≡ n
+      → Tested (scheduleFrame prefix loop) (claim (formulaOf table e) i s) (node k a n) b → Right b
+  at-node {b} k a n p q r t = subst (λ y. Tested (scheduleFrame prefix loop) (claim (formulaOf table e) i s) y b) (node-is w k a n p q r) t
+
+  pub node-malformed : wordOf w ≡ Malformed → Right false
   unfolding wordOf
-  node-malformed p needs r =
+  node-malformed p = unfit (λ needs r.
       let numbers = rule-numbers r in
       formed (w / 16777216) (w / 65536 % 256) (w % 65536) (numbers .low) (numbers .high) (numbers .unnamed) (numbers .plain)
-      (subst IsMalformed (sym p) tt)
+      (subst IsMalformed (sym p) tt))
 
   -- the code hands over the letter and the entry that it read
-  pub node-atom : (plan : Plan) (letter : ℕ) (x : Entry) (k a n : ℕ) → wordOf w ≡ Atom k a n → letter ≡ letterAt prefix loop i → x ≡ entryAt table e
-      → plan ≡ atomPlan letter x i s k a n → Right plan
-  node-atom plan letter x k a n p l q d =
+  pub node-atom : (b : Bool) (letter : ℕ) (x : Entry) (k a n : ℕ) → wordOf w ≡ Atom k a n → letter ≡ letterAt prefix loop i → x ≡ entryAt table e
+      → b ≡ atomFits letter x i s k a n → Right b
+  node-atom b letter x k a n p l q d =
       let says = word-says w (Atom k a n) p in
-      subst Right (sym (d ∙ (λ j. atomPlan (l j) (q j) i s k a n)))
-      (subst (λ y. Judges (scheduleFrame prefix loop) table e i s y (atomPlan (letterAt prefix loop i) (entryAt table e) i s k a n))
-      (node-is w k a n (says .0) (says .1) (says .2))
-      (judged-atom (scheduleFrame prefix loop) table e i s a n k (says .3) (says .4)))
+      subst Right (sym (d ∙ (λ j. atomFits (l j) (q j) i s k a n)))
+      (at-node k a n (says .0) (says .1) (says .2) (judged-atom (scheduleFrame prefix loop) table e i s a n k (says .3) (says .4)))
 
-  pub node-plain : (plan : Plan) (x : Entry) (k : ℕ) → wordOf w ≡ Plain k → x ≡ entryAt table e → plan ≡ plainPlan x i s k → Right plan
-  node-plain plan x k p q d =
+  pub node-plain : (b : Bool) (x : Entry) (k : ℕ) → wordOf w ≡ Plain k → x ≡ entryAt table e → b ≡ fitsOf k x s → Right b
+  node-plain b x k p q d =
       let says = word-says w (Plain k) p in
-      subst Right (sym (d ∙ (λ j. plainPlan (q j) i s k)))
-      (subst (λ y. Judges (scheduleFrame prefix loop) table e i s y (plainPlan (entryAt table e) i s k))
-      (node-is w k 0 0 (says .0) (says .1) (says .2))
-      (judged-plain (scheduleFrame prefix loop) table e i s k (says .3) (says .4)))
+      subst Right (sym (d ∙ (λ j. fitsOf k (q j) s)))
+      (at-node k 0 0 (says .0) (says .1) (says .2) (judged-plain (scheduleFrame prefix loop) table e i s k (says .3) (says .4)))
 
-  pub node-counted : (plan : Plan) (x : Entry) (k n : ℕ) → wordOf w ≡ Counted k n → x ≡ entryAt table e
-      → plan ≡ listPlan (length prefix) (length loop) table x i s k n → Right plan
-  node-counted plan x k n p q d =
+  pub node-counted : (b : Bool) (x : Entry) (k n : ℕ) → wordOf w ≡ Counted k n → x ≡ entryAt table e
+      → b ≡ listFits (length prefix) (length loop) table x i s k n → Right b
+  node-counted b x k n p q d =
       let says = word-says w (Counted k n) p in
-      subst Right (sym (d ∙ (λ j. listPlan (length prefix) (length loop) table (q j) i s k n)))
-      (subst (λ y. Judges (scheduleFrame prefix loop) table e i s y (listPlan (length prefix) (length loop) table (entryAt table e) i s k n))
-      (node-is w k 0 n (says .0) (says .1) (says .2))
+      subst Right (sym (d ∙ (λ j. listFits (length prefix) (length loop) table (q j) i s k n)))
+      (at-node k 0 n (says .0) (says .1) (says .2)
       (judged-list (letterAt prefix loop) (length prefix) (length loop) table e i s n (small says) k (says .3) (says .4)))
     where
       small : {A B C D : Type 0} → A × B × (w % 65536 ≡ n) × C × D → n < 65536
       small says = omega (arith, says .2)
+
+-- A node that a rule fits asks of its parts what its demands say.
+module _ (prefix loop table : List ℕ) (e i : ℕ) (s : Verdict) (x : Node) (needs : List Claim)
+    (r : Rule (scheduleFrame prefix loop) (claim (formulaOf table e) i s) x needs) (low : 3 ≤ x .rule) (small : x .number < 65536) where
+  abbrev AsksOf : Node → Demands → Type 0
+  AsksOf = Asks (scheduleFrame prefix loop) table e i s
+
+  at-plain : x .rule ≤ 10 → AsksOf x (plainDemands (entryAt table e) i s (x .rule))
+  at-plain high =
+      subst (λ y. AsksOf y (plainDemands (entryAt table e) i s (x .rule)))
+      (λ j. node (x .rule) (sym (rule-numbers r .unnamed low) j) (sym (rule-numbers r .plain low high) j))
+      (asks-plain (scheduleFrame prefix loop) table e i s (x .rule) low high (rule-fits table e i s r))
+
+  at-count : 10 < x .rule → AsksOf x (countDemands (x .rule) (leftOf (entryAt table e)) (rightOf (entryAt table e)) i (x .number) s)
+  at-count past =
+      subst (λ y. AsksOf y (countDemands (x .rule) (leftOf (entryAt table e)) (rightOf (entryAt table e)) i (x .number) s)) is
+      (asks-count (letterAt prefix loop) (length prefix) (length loop) table e i s (x .number) small (x .rule) (omega arith) (rule-numbers r .high)
+      (subst (λ y. Rule (scheduleFrame prefix loop) (claim (formulaOf table e) i s) y needs) (sym is) r))
+    where
+      is : node (x .rule) 0 (x .number) ≡ x
+      is = λ j. node (x .rule) (sym (rule-numbers r .unnamed low) j) (x .number)
+
+  pub rule-asks : AsksOf x (demandsOf (entryAt table e) i s (x .rule) (x .number))
+  rule-asks = by-cases (decLe (x .rule) 10)
+      (λ le. subst (AsksOf x) (demands-plain (entryAt table e) i s (x .rule) (x .number) le) (at-plain le))
+      (λ gt. let past : 10 < x .rule = omega arith in
+      subst (AsksOf x) (demands-count (entryAt table e) i s (x .rule) (x .number) _ _ past refl refl) (at-count past))
+
+  -- and nothing of it is out of reach
+  pub rule-countable : i < 2 ^ 40 → Countable (x .rule) i (x .number)
+  rule-countable near = let numbers = rule-numbers r in record {
+    high = numbers .high;
+    position = near;
+    number = small;
+    eleven = numbers .count11;
+    twelve = λ e. numbers .count12 e .1;
+    fifteen = numbers .count15;
+  }

@@ -3,6 +3,7 @@ pub mod Words
 pub mod Plans
 pub mod Parts
 pub mod Needs
+pub mod Shapes
 pub mod Forests
 pub mod Places
 pub mod Laid

@@ -1,7 +1,7 @@
 -- A node leaves its claim no choice: claim and node fix what the parts have to prove, and the rule fixes what claim and node look like.
 -- Assumes nothing.
 use Prim.Native.Nat.{ℕ, _+_, _-_, _≤_}
-use mathlib.Core.Path.{_≡_, refl, sym, _∙_}
+use mathlib.Core.Path.{_≡_, refl, sym, ap, _∙_}
 use mathlib.Core.Bool.{cond}
 use mathlib.Core.List.{List, [], _∷_}
 use native.Mathlib.Omega.{arith}
@@ -14,7 +14,7 @@ use Rattle.trees.specs.Rules.{Frame, Claim, claim, run, Rule}
 use Rattle.trees.specs.Rules.{rule1, rule2, rule3, rule4, rule5, rule6, rule7, rule8}
 use Rattle.trees.specs.Rules.{rule9, rule10, rule11, rule12, rule13, rule14, rule15, rule16}
 use Rattle.trees.specs.Table.{ruleSign, ruleKind}
-use Rattle.trees.specs.Plans.{signOf}
+use Rattle.trees.specs.Plans.{signOf, provenBy}
 use Rattle.trees.specs.declared.Verdict.{Verdict}
 use Rattle.trees.specs.declared.Verdict.the-variants.{Holds, Violated}
 
@@ -35,27 +35,6 @@ needsBy (until f g) i Violated r n = cond (eqb r 15) (claim f (i + n - 1) Violat
 
 abbrev pub needsOf : Claim → Node → List Claim
 needsOf c x = needsBy (c .formula) (c .position) (c .verdict) (x .rule) (x .number)
-
-pub rule-needs : {frame : Frame} {c : Claim} {x : Node} {needs : List Claim} → Rule frame c x needs → needs ≡ needsOf c x
-rule-needs (rule1 h) = refl
-rule-needs (rule2 h) = refl
-rule-needs rule3 = refl
-rule-needs rule4 = refl
-rule-needs rule5 = refl
-rule-needs rule6 = refl
-rule-needs rule7 = refl
-rule-needs rule8 = refl
-rule-needs rule9 = refl
-rule-needs rule10 = refl
-rule-needs (rule11 h) = refl
-rule-needs (rule12 h l) = refl
-rule-needs (rule13 h) = refl
-rule-needs rule14 = refl
-rule-needs (rule15 h) = refl
-rule-needs (rule16 h) = refl
-
-pub needs-one : {frame : Frame} {c : Claim} {x : Node} {ns ms : List Claim} → Rule frame c x ns → Rule frame c x ms → ns ≡ ms
-needs-one r s = rule-needs r ∙ sym (rule-needs s)
 
 abbrev pub formulaKind : Formula → ℕ
 formulaKind (atom a) = 0
@@ -83,44 +62,6 @@ formulaRight (andᶠ f g) = g
 formulaRight (since f g) = g
 formulaRight (until f g) = g
 
-pub rule-kind : {frame : Frame} {c : Claim} {x : Node} {needs : List Claim}
-    → Rule frame c x needs → formulaKind (c .formula) ≡ ruleKind (x .rule)
-rule-kind (rule1 h) = refl
-rule-kind (rule2 h) = refl
-rule-kind rule3 = refl
-rule-kind rule4 = refl
-rule-kind rule5 = refl
-rule-kind rule6 = refl
-rule-kind rule7 = refl
-rule-kind rule8 = refl
-rule-kind rule9 = refl
-rule-kind rule10 = refl
-rule-kind (rule11 h) = refl
-rule-kind (rule12 h l) = refl
-rule-kind (rule13 h) = refl
-rule-kind rule14 = refl
-rule-kind (rule15 h) = refl
-rule-kind (rule16 h) = refl
-
-pub rule-sign : {frame : Frame} {c : Claim} {x : Node} {needs : List Claim}
-    → Rule frame c x needs → signOf (c .verdict) ≡ ruleSign (x .rule)
-rule-sign (rule1 h) = refl
-rule-sign (rule2 h) = refl
-rule-sign rule3 = refl
-rule-sign rule4 = refl
-rule-sign rule5 = refl
-rule-sign rule6 = refl
-rule-sign rule7 = refl
-rule-sign rule8 = refl
-rule-sign rule9 = refl
-rule-sign rule10 = refl
-rule-sign (rule11 h) = refl
-rule-sign (rule12 h l) = refl
-rule-sign (rule13 h) = refl
-rule-sign rule14 = refl
-rule-sign (rule15 h) = refl
-rule-sign (rule16 h) = refl
-
 pub sign-one : {a b : Verdict} → signOf a ≡ signOf b → a ≡ b
 sign-one {a} {b} e = go a b e
   where
@@ -130,8 +71,11 @@ sign-one {a} {b} e = go a b e
     go Violated Holds e = absurd (omega arith)
     go Violated Violated e = refl
 
--- What the numbers of a node are, by its rule. A node that breaks one of these laws is wrong for its claim.
+-- What the kind and the verdict of a claim and the numbers of its node are, by the node's rule.
+-- A node that breaks one of these laws is wrong for its claim.
 pub record Numbers (frame : Frame) (c : Claim) (x : Node) : Type 0 where
+  pub kind : formulaKind (c .formula) ≡ ruleKind (x .rule)
+  pub sign : signOf (c .verdict) ≡ ruleSign (x .rule)
   pub low : 1 ≤ x .rule
   pub high : x .rule ≤ 16
   pub named : x .atom ≡ formulaAtom (c .formula)
@@ -146,20 +90,48 @@ pub record Numbers (frame : Frame) (c : Claim) (x : Node) : Type 0 where
   pub count15 : x .rule ≡ 15 → 1 ≤ x .number
   pub count16 : x .rule ≡ 16 → x .number ≡ frame .count (c .position) (height Past (formulaRight (c .formula)))
 
-pub rule-numbers : {frame : Frame} {c : Claim} {x : Node} {needs : List Claim} → Rule frame c x needs → Numbers frame c x
-rule-numbers (rule1 h) = omega arith
-rule-numbers (rule2 h) = omega arith
-rule-numbers rule3 = omega arith
-rule-numbers rule4 = omega arith
-rule-numbers rule5 = omega arith
-rule-numbers rule6 = omega arith
-rule-numbers rule7 = omega arith
-rule-numbers rule8 = omega arith
-rule-numbers rule9 = omega arith
-rule-numbers rule10 = omega arith
-rule-numbers (rule11 h) = omega arith
-rule-numbers (rule12 h l) = omega arith
-rule-numbers (rule13 h) = omega arith
-rule-numbers rule14 = omega arith
-rule-numbers (rule15 h) = omega arith
-rule-numbers (rule16 h) = omega arith
+-- the one table of the rules: all that claim and node say of them
+rule-told : {frame : Frame} {c : Claim} {x : Node} {needs : List Claim}
+    → Rule frame c x needs → (needs ≡ needsOf c x) × Numbers frame c x
+rule-told (rule1 h) = (refl, omega arith)
+rule-told (rule2 h) = (refl, omega arith)
+rule-told rule3 = (refl, omega arith)
+rule-told rule4 = (refl, omega arith)
+rule-told rule5 = (refl, omega arith)
+rule-told rule6 = (refl, omega arith)
+rule-told rule7 = (refl, omega arith)
+rule-told rule8 = (refl, omega arith)
+rule-told rule9 = (refl, omega arith)
+rule-told rule10 = (refl, omega arith)
+rule-told (rule11 h) = (refl, omega arith)
+rule-told (rule12 h l) = (refl, omega arith)
+rule-told (rule13 h) = (refl, omega arith)
+rule-told rule14 = (refl, omega arith)
+rule-told (rule15 h) = (refl, omega arith)
+rule-told (rule16 h) = (refl, omega arith)
+
+module _ {frame : Frame} {c : Claim} {x : Node} {needs : List Claim} (r : Rule frame c x needs) where
+  pub rule-needs : needs ≡ needsOf c x
+  rule-needs = rule-told r .0
+
+  pub rule-numbers : Numbers frame c x
+  rule-numbers = rule-told r .1
+
+  pub rule-kind : formulaKind (c .formula) ≡ ruleKind (x .rule)
+  rule-kind = rule-numbers .kind
+
+  pub rule-sign : signOf (c .verdict) ≡ ruleSign (x .rule)
+  rule-sign = rule-numbers .sign
+
+pub needs-one : {frame : Frame} {c : Claim} {x : Node} {ns ms : List Claim}
+    → Rule frame c x ns → Rule frame c x ms → ns ≡ ms
+needs-one r s = rule-needs r ∙ sym (rule-needs s)
+
+-- a rule proves the verdict of its claim
+sign-proves : (s : Verdict) (n : ℕ) → signOf s ≡ n → cond (eqb n 1) Holds Violated ≡ s
+sign-proves Holds n e = ap (λ k. cond (eqb k 1) Holds Violated) (sym e)
+sign-proves Violated n e = ap (λ k. cond (eqb k 1) Holds Violated) (sym e)
+
+pub rule-proves : {frame : Frame} {c : Claim} {x : Node} {needs : List Claim} → Rule frame c x needs → provenBy (x .rule) ≡ c .verdict
+unfolding provenBy
+rule-proves {c} {x} r = sign-proves (c .verdict) (ruleSign (x .rule)) (rule-sign r)

@@ -11,7 +11,9 @@ use lib.ListN.{getD}
 use Rattle.rules.specs.Formula.{Formula, atom, notᶠ, orᶠ, andᶠ, since, until}
 use Rattle.rules.specs.Tables.{entryAt, build, formulaOf}
 use Rattle.rules.specs.declared.Entry.{Entry}
-use Rattle.rules.specs.declared.Entry.the-variants.{Atom, Not, Or, And, Since, Until, Broken}
+use Rattle.rules.specs.declared.Entry.the-variants.{Atom, One, Two, Broken}
+use Rattle.rules.specs.declared.Unary.the-variants.{Not}
+use Rattle.rules.specs.declared.Binary.the-variants.{Or, And, Since, Until}
 use Rattle.rules.proofs.Entries.{PartsBelow, parts-earlier}
 use Rattle.rules.proofs.Unrolls.{formula-unrolls}
 use Rattle.trees.specs.Plans.{kindOf, leftOf, rightOf}
@@ -26,11 +28,11 @@ byKind k part l r =
 
 built : (part : ℕ → Formula) (x : Entry) → build part x ≡ byKind (kindOf x) part (leftOf x) (rightOf x)
 built part (Atom a) = refl
-built part (Not l) = refl
-built part (Or l r) = refl
-built part (And l r) = refl
-built part (Since l r) = refl
-built part (Until l r) = refl
+built part (One Not l) = refl
+built part (Two Or l r) = refl
+built part (Two And l r) = refl
+built part (Two Since l r) = refl
+built part (Two Until l r) = refl
 built part Broken = refl
 
 -- The formula of an entry whose kind is k. At a numeral it computes to the kind's own form.
@@ -43,21 +45,15 @@ formula-kind table e k p =
 
 parts-below : (e : ℕ) (x : Entry) → PartsBelow e x → (1 ≤ kindOf x → leftOf x < e) × (2 ≤ kindOf x → rightOf x < e)
 parts-below e (Atom a) h = (λ k. absurd (omega arith), λ k. absurd (omega arith))
-parts-below e (Not l) h = (λ k. h, λ k. absurd (omega arith))
-parts-below e (Or l r) h = (λ k. h .0, λ k. h .1)
-parts-below e (And l r) h = (λ k. h .0, λ k. h .1)
-parts-below e (Since l r) h = (λ k. h .0, λ k. h .1)
-parts-below e (Until l r) h = (λ k. h .0, λ k. h .1)
+parts-below e (One op l) h = (λ k. h, λ k. absurd (omega arith))
+parts-below e (Two op l r) h = (λ k. h .0, λ k. h .1)
 parts-below e Broken h = (λ k. absurd (omega arith), λ k. absurd (omega arith))
 
 -- rights of entries without one are 0
 right-small : (e : ℕ) (x : Entry) → PartsBelow e x → (rightOf x < e) ⊎ (rightOf x ≡ 0)
 right-small e (Atom a) h = inr refl
-right-small e (Not l) h = inr refl
-right-small e (Or l r) h = inl (h .1)
-right-small e (And l r) h = inl (h .1)
-right-small e (Since l r) h = inl (h .1)
-right-small e (Until l r) h = inl (h .1)
+right-small e (One op l) h = inr refl
+right-small e (Two op l r) h = inl (h .1)
 right-small e Broken h = inr refl
 
 module _ (table : List ℕ) (e : ℕ) where

@@ -1,6 +1,8 @@
 -- Bounds of the rule table, each by one test that is computed over the whole table.
 -- Assumes nothing.
 use mathlib.Core.Path.{_≡_, refl, subst}
+use mathlib.Core.Bool.{true}
+use mathlib.Core.List.{List}
 use mathlib.Core.Logic.{⊎-elim}
 use Prim.Native.Nat.{ℕ, suc, _+_, _-_, _≤_}
 use native.Mathlib.Nat.{eq-or-lt-of-le}
@@ -8,8 +10,13 @@ use native.Mathlib.Omega.{arith}
 use borrow.Author.Tests.{leb-true}
 use lib.Dec.{leb}
 use lib.ListN.{getD}
+use Rattle.rules.specs.Tables.{allBelow}
 use Rattle.rules.proofs.Below.{all-at}
 use Rattle.trees.specs.Table.{signs, fixedParts, ruleSign, ruleFixed}
+
+-- no column of the table has a number above 5
+pub small-at : (column : List ℕ) → allBelow 16 (λ k. leb (getD column k 0) 5) ≡ true → (r : ℕ) → 1 ≤ r → r ≤ 16 → getD column (r - 1) 0 ≤ 5
+small-at column all r l h = leb-true (getD column (r - 1) 0) 5 (all-at (λ k. leb (getD column k 0) 5) 16 (r - 1) all (omega arith))
 
 pub sign-small : (r : ℕ) → 1 ≤ r → r ≤ 16 → ruleSign r ≤ 2
 sign-small r l h = leb-true (ruleSign r) 2 (all-at (λ k. leb (getD signs k 0) 2) 16 (r - 1) refl (omega arith))

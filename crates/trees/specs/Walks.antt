@@ -1,5 +1,6 @@
 -- What the test of one node and the walk answer.
 use Prim.Native.Nat.{ℕ, _+_, _-_, _*_, _^_, _<_, _≤_}
+use mathlib.Core.Bool.{Bool, true, false}
 use mathlib.Core.List.{List, _∷_}
 use lib.ListN.{length, drop}
 use lib.Seq.{slice}
@@ -7,13 +8,10 @@ use Rattle.rules.specs.Tables.{formulaOf}
 use Rattle.trees.specs.Nodes.{Node}
 use Rattle.trees.specs.Rules.{Frame, Claim, claim, Rule}
 use Rattle.trees.specs.Trees.{Tree}
-use Rattle.trees.specs.Place.{Breaks}
-use Rattle.trees.specs.Place
+use Rattle.trees.specs.Place.{Wrong, Breaks}
 use Rattle.trees.specs.Plans.{claimsOf}
 use Rattle.trees.specs.declared.Verdict.{Verdict}
 use Rattle.trees.specs.declared.Demands.{Demands}
-use Rattle.trees.specs.declared.Plan.{Plan}
-use Rattle.trees.specs.declared.Plan.the-variants.{Wrong, Go}
 use Rattle.trees.specs.declared.Step.{Step}
 use Rattle.trees.specs.declared.Step.the-variants.{Next, Bad}
 
@@ -32,10 +30,15 @@ pub record Earlier (e i : ℕ) (d : Demands) : Type 0 where
   pub member : 0 < d .count → d .member < e
   pub last : d .from + d .count ≤ i + 65536
 
--- The node is wrong for its claim, or its rule proves it from the claims of its parts.
-abbrev pub Judges : Frame → List ℕ → ℕ → ℕ → Verdict → Node → Plan → Type 0
-Judges frame table e i s x Wrong = Place.Wrong frame (claim (formulaOf table e) i s) x
-Judges frame table e i s x (Go d) = Rule frame (claim (formulaOf table e) i s) x (claimsOf table d) × Earlier e i d
+-- A rule of the table makes the node prove the claim, or the node is wrong for it.
+pub data Tested (frame : Frame) (c : Claim) (x : Node) : Bool → Type 0 where
+  fits : {needs : List Claim} → Rule frame c x needs → Tested frame c x true
+  unfit : Wrong frame c x → Tested frame c x false
+
+-- The node proves its claim from the claims of its parts, which are earlier.
+pub record Asks (frame : Frame) (table : List ℕ) (e i : ℕ) (s : Verdict) (x : Node) (d : Demands) : Type 0 where
+  pub rule : Rule frame (claim (formulaOf table e) i s) x (claimsOf table d)
+  pub near : Earlier e i d
 
 -- A tree stands from one place to the next, or no tree stands there and the words break off at a place, whatever claims were to follow.
 abbrev pub Walks : Frame → Claim → List Node → ℕ → Step → Type 0

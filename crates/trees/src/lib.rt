@@ -1,22 +1,25 @@
 // Trees: a word and its fields, the table of the sixteen rules, the test of one node, and the walk.
+use rules::Binary;
 use rules::Entry;
 use rules::Side;
 use rules::entry_at;
 use schedule::bit;
 use schedule::letter;
 ghost use mathlib.Core.Path.{_≡_};
-ghost use Prim.Native.Nat.{_+_, _-_, _*_, _^_, _≤_, _<_, max};
+ghost use Prim.Native.Nat.{_+_, _/_, _^_, _≤_, _<_, max};
 ghost use mathlib.Core.List.{map};
 ghost use lib.ListN.{length};
-ghost use Rattle.rules.specs.Tables.{formulaOf};
+ghost use Rattle.rules.specs.Tables.{entryAt, formulaOf};
 ghost use Rattle.rules.specs.Formula.{height};
 ghost use Rattle.rules.specs.declared.Side.the-variants.{Past};
 ghost use Rattle.trees.specs.Nodes.{nodeOf};
 ghost use Rattle.trees.specs.Rules.{claim};
 ghost use Rattle.trees.specs.Frames.{scheduleFrame};
 ghost use Rattle.trees.specs.Table.{ruleSign, ruleKind, ruleFixed};
-ghost use Rattle.trees.specs.Plans.{wordFrom, wordOf, kindOf, leftOf, rightOf, signOf, turned, claimedBy, fitsOf, firstOf, verdictOf, atomPlan, plainPlan, countPlan, windowOf, Counts, listPlan, listDemands, partOf};
-ghost use Rattle.trees.specs.Walks.{Within, Judges, Walks};
+ghost use Rattle.trees.specs.Plans.{within, wordFrom, wordOf, kindOf, leftOf, rightOf, signOf, turned, provenBy, claimedBy};
+ghost use Rattle.trees.specs.Plans.{fitsOf, firstOf, verdictOf, atomFits, plainDemands, countFits, listDemands, countDemands};
+ghost use Rattle.trees.specs.Plans.{windowOf, Counts, Countable, listFits, demandsOf, partOf};
+ghost use Rattle.trees.specs.Walks.{Within, Tested, Walks};
 
 pub enum Verdict {
     Holds,
@@ -24,11 +27,11 @@ pub enum Verdict {
 }
 
 // The table of the sixteen rules, a place a rule: its sign (1 holds, 2 violated), its formula kind, its number of fixed parts.
-const SIGNS: [u32; 16] = [1, 2, 1, 2, 1, 1, 2, 1, 2, 2, 1, 2, 2, 1, 2, 2];
+const SIGNS: [u8; 16] = [1, 2, 1, 2, 1, 1, 2, 1, 2, 2, 1, 2, 2, 1, 2, 2];
 
-const KINDS: [u32; 16] = [0, 0, 1, 1, 2, 2, 2, 3, 3, 3, 4, 4, 4, 5, 5, 5];
+const KINDS: [u8; 16] = [0, 0, 1, 1, 2, 2, 2, 3, 3, 3, 4, 4, 4, 5, 5, 5];
 
-const FIXED: [usize; 16] = [0, 0, 1, 1, 1, 1, 2, 2, 1, 1, 1, 1, 0, 1, 1, 0];
+const FIXED: [u8; 16] = [0, 0, 1, 1, 1, 1, 2, 2, 1, 1, 1, 1, 0, 1, 1, 0];
 
 // A word by its rule: what its fields say, or that its form fits no rule.
 pub enum Word {
@@ -47,11 +50,6 @@ pub struct Demands {
     pub from: usize,
     pub count: usize,
     pub verdict: Verdict,
-}
-
-pub enum Plan {
-    Wrong,
-    Go(Demands),
 }
 
 // Where the walk stands after a tree, or the place of the word at which it breaks.
@@ -89,11 +87,13 @@ fn kind_of(entry: Entry) -> u32
 {
     match entry {
         Entry::Atom(_) => 0,
-        Entry::Not(_) => 1,
-        Entry::Or(_, _) => 2,
-        Entry::And(_, _) => 3,
-        Entry::Since(_, _) => 4,
-        Entry::Until(_, _) => 5,
+        Entry::One(_, _) => 1,
+        Entry::Two(op, _, _) => match op {
+            Binary::Or => 2,
+            Binary::And => 3,
+            Binary::Since => 4,
+            Binary::Until => 5,
+        },
         Entry::Broken => 0,
     }
 }
@@ -103,11 +103,8 @@ fn left_of(entry: Entry) -> usize
 {
     match entry {
         Entry::Atom(a) => a,
-        Entry::Not(l) => l,
-        Entry::Or(l, _) => l,
-        Entry::And(l, _) => l,
-        Entry::Since(l, _) => l,
-        Entry::Until(l, _) => l,
+        Entry::One(_, l) => l,
+        Entry::Two(_, l, _) => l,
         Entry::Broken => 0,
     }
 }
@@ -117,11 +114,8 @@ fn right_of(entry: Entry) -> usize
 {
     match entry {
         Entry::Atom(_) => 0,
-        Entry::Not(_) => 0,
-        Entry::Or(_, r) => r,
-        Entry::And(_, r) => r,
-        Entry::Since(_, r) => r,
-        Entry::Until(_, r) => r,
+        Entry::One(_, _) => 0,
+        Entry::Two(_, _, r) => r,
         Entry::Broken => 0,
     }
 }
@@ -130,21 +124,27 @@ fn sign(rule: usize) -> u32
     requires { ⌜ (1 ≤ rule) × (rule ≤ 16) ⌝ }
     ensures { λ r. ⌜ r ≡ ruleSign rule ⌝ }
 {
-    SIGNS[rule - 1]
+    SIGNS[rule - 1] as u32
 }
 
 fn kind(rule: usize) -> u32
     requires { ⌜ (1 ≤ rule) × (rule ≤ 16) ⌝ }
     ensures { λ r. ⌜ r ≡ ruleKind rule ⌝ }
 {
-    KINDS[rule - 1]
+    KINDS[rule - 1] as u32
 }
 
 fn fixed(rule: usize) -> usize
     requires { ⌜ (1 ≤ rule) × (rule ≤ 16) ⌝ }
     ensures { λ r. ⌜ r ≡ ruleFixed rule ⌝ }
 {
-    FIXED[rule - 1]
+    FIXED[rule - 1] as usize
+}
+
+fn within(low: usize, high: usize, n: usize) -> bool
+    ensures { λ r. ⌜ r ≡ within low high n ⌝ }
+{
+    low <= n && n <= high
 }
 
 // Form.
@@ -185,11 +185,10 @@ fn decode(word: u32) -> Word
     }
 }
 
-// The verdict that the rule of a root's word claims.
-pub fn claimed(word: u32) -> Verdict
-    ensures { λ r. ⌜ r ≡ claimedBy word ⌝ }
+// The verdict that a rule proves.
+pub fn proven(rule: usize) -> Verdict
+    ensures { λ r. ⌜ r ≡ provenBy rule ⌝ }
 {
-    let rule = (word / 16777216) as usize;
     if rule == 0 {
         return Verdict::Holds; // no rule: wrong for either verdict
     }
@@ -202,6 +201,20 @@ pub fn claimed(word: u32) -> Verdict
     Verdict::Violated
 }
 
+// The rule of a word.
+fn rule_of(word: u32) -> usize
+    ensures { λ r. ⌜ r ≡ word / 16777216 ⌝ }
+{
+    (word / 16777216) as usize
+}
+
+// The verdict that the rule of a root's word claims.
+pub fn claimed(word: u32) -> Verdict
+    ensures { λ r. ⌜ r ≡ claimedBy word ⌝ }
+{
+    proven(rule_of(word))
+}
+
 // Kind, then sign.
 fn suits(rule: usize, entry: Entry, needed: Verdict) -> bool
     requires { ⌜ (1 ≤ rule) × (rule ≤ 16) ⌝ }
@@ -211,7 +224,7 @@ fn suits(rule: usize, entry: Entry, needed: Verdict) -> bool
 }
 
 // Rules 1 and 2: kind with the atom's number, sign, position, letter.
-fn atom_plan(
+fn atom_fits(
     letter: u32,
     entry: Entry,
     position: usize,
@@ -219,31 +232,20 @@ fn atom_plan(
     rule: usize,
     atom: usize,
     number: usize,
-) -> Plan
+) -> bool
     requires { ⌜ (1 ≤ rule) × (rule ≤ 2) ⌝ }
-    ensures { λ r. ⌜ r ≡ atomPlan letter entry position needed rule atom number ⌝ }
+    ensures { λ r. ⌜ r ≡ atomFits letter entry position needed rule atom number ⌝ }
 {
     if !suits(rule, entry, needed) {
-        return Plan::Wrong;
+        return false;
     }
     if atom != left_of(entry) {
-        return Plan::Wrong;
+        return false;
     }
     if number != position {
-        return Plan::Wrong;
+        return false;
     }
-    if bit(letter, atom) != 2 - sign(rule) {
-        return Plan::Wrong;
-    }
-    Plan::Go(Demands {
-        fixed: 0,
-        first: 0,
-        place: 0,
-        member: 0,
-        from: 0,
-        count: 0,
-        verdict: needed,
-    })
+    bit(letter, atom) == 2 - sign(rule)
 }
 
 // Rules 6 and 10 have the right part alone, the others begin with the left one.
@@ -268,23 +270,20 @@ fn part_verdict(needed: Verdict, rule: usize) -> Verdict
     }
 }
 
-// Rules 3 to 10.
-fn plain_plan(entry: Entry, position: usize, needed: Verdict, rule: usize) -> Plan
+// Rules 3 to 10: what the parts have to prove.
+fn plain_demands(entry: Entry, position: usize, verdict: Verdict, rule: usize) -> Demands
     requires { ⌜ (3 ≤ rule) × (rule ≤ 10) ⌝ }
-    ensures { λ r. ⌜ r ≡ plainPlan entry position needed rule ⌝ }
+    ensures { λ r. ⌜ r ≡ plainDemands entry position verdict rule ⌝ }
 {
-    if !suits(rule, entry, needed) {
-        return Plan::Wrong;
-    }
-    Plan::Go(Demands {
+    Demands {
         fixed: 1,
         first: first_part(entry, rule),
         place: position,
         member: right_of(entry),
         from: position,
         count: fixed(rule) - 1,
-        verdict: part_verdict(needed, rule),
-    })
+        verdict: part_verdict(verdict, rule),
+    }
 }
 
 // What a list asks, with the rule's fixed part before it.
@@ -311,71 +310,68 @@ fn list_demands(
     }
 }
 
-// Rules 11 to 16 by their counts.
-fn count_plan(
+// Rules 11 to 16: whether the count is allowed at the position. The window is rule 16's count.
+fn count_fits(rule: usize, position: usize, n: usize, window: usize) -> bool
+    requires { ⌜ (11 ≤ rule) × (rule ≤ 16) × (position < 2 ^ 40) ⌝ }
+    ensures { λ r. ⌜ r ≡ countFits rule position n window ⌝ }
+{
+    match rule {
+        11 => n <= position,
+        12 => within(1, position + 1, n),
+        13 => n == position + 1,
+        14 => true,
+        15 => 1 <= n,
+        _ => n == window,
+    }
+}
+
+// Rules 11 to 16: what the parts have to prove.
+fn count_demands(
     rule: usize,
     left: usize,
     right: usize,
     position: usize,
     n: usize,
-    window: usize,
     verdict: Verdict,
-) -> Plan
-    requires { ⌜ (11 ≤ rule) × (rule ≤ 16) × (position < 2 ^ 40) × (n < 65536) ⌝ }
-    ensures { λ r. ⌜ r ≡ countPlan rule left right position n window verdict ⌝ }
+) -> Demands
+    requires { ⌜ (11 ≤ rule) × Countable rule position n ⌝ }
+    ensures { λ r. ⌜ r ≡ countDemands rule left right position n verdict ⌝ }
 {
     match rule {
-        11 => {
-            if position < n {
-                return Plan::Wrong;
-            }
-            Plan::Go(list_demands(
-                rule,
-                right,
-                position - n,
-                left,
-                position - n + 1,
-                n,
-                verdict,
-            ))
-        }
-        12 => {
-            if n < 1 {
-                return Plan::Wrong;
-            }
-            if position + 1 < n {
-                return Plan::Wrong;
-            }
-            Plan::Go(list_demands(
-                rule,
-                left,
-                position + 1 - n,
-                right,
-                position + 1 - n,
-                n,
-                verdict,
-            ))
-        }
-        13 => {
-            if n != position + 1 {
-                return Plan::Wrong;
-            }
-            Plan::Go(list_demands(rule, left, 0, right, 0, n, verdict))
-        }
-        14 => Plan::Go(list_demands(rule, right, position + n, left, position, n, verdict)),
-        15 => {
-            if n < 1 {
-                return Plan::Wrong;
-            }
-            Plan::Go(list_demands(rule, left, position + n - 1, right, position, n, verdict))
-        }
-        _ => {
-            if n != window {
-                return Plan::Wrong;
-            }
-            Plan::Go(list_demands(rule, left, 0, right, position, n, verdict))
-        }
+        11 => list_demands(
+            rule,
+            right,
+            position - n,
+            left,
+            position - n + 1,
+            n,
+            verdict,
+        ),
+        12 => list_demands(
+            rule,
+            left,
+            position + 1 - n,
+            right,
+            position + 1 - n,
+            n,
+            verdict,
+        ),
+        13 => list_demands(rule, left, 0, right, 0, n, verdict),
+        14 => list_demands(rule, right, position + n, left, position, n, verdict),
+        15 => list_demands(rule, left, position + n - 1, right, position, n, verdict),
+        _ => list_demands(rule, left, 0, right, position, n, verdict),
     }
+}
+
+// What the parts of a node of rules 3 to 16 have to prove, by its rule and its number, where it is known that a rule fits it.
+pub fn demands_of(entry: Entry, position: usize, verdict: Verdict, rule: usize, n: usize) -> Demands
+    requires { ⌜ (3 ≤ rule) × Countable rule position n ⌝ }
+    ensures { λ r. ⌜ r ≡ demandsOf entry position verdict rule n ⌝ }
+{
+    if rule <= 10 {
+        return plain_demands(entry, position, verdict, rule);
+    }
+    count_demands(rule, left_of(entry), right_of(entry), position, n, verdict)
 }
 
 fn larger(a: usize, b: usize) -> usize
@@ -397,7 +393,7 @@ fn window(u: usize, v: usize, table: &[u32], right: usize, position: usize, rule
 }
 
 // Rules 11 to 16: kind, sign, count.
-fn list_plan(
+fn list_fits(
     u: usize,
     v: usize,
     table: &[u32],
@@ -406,35 +402,34 @@ fn list_plan(
     needed: Verdict,
     rule: usize,
     n: usize,
-) -> Plan
+) -> bool
     requires { ⌜ Counts u v entry position rule n ⌝ }
-    ensures { λ r. ⌜ r ≡ listPlan u v (now (table .entry)) entry position needed rule n ⌝ }
+    ensures { λ r. ⌜ r ≡ listFits u v (now (table .entry)) entry position needed rule n ⌝ }
 {
     if !suits(rule, entry, needed) {
-        return Plan::Wrong;
+        return false;
     }
-    let right = right_of(entry);
-    let count = window(u, v, table, right, position, rule);
-    count_plan(rule, left_of(entry), right, position, n, count, needed)
+    let count = window(u, v, table, right_of(entry), position, rule);
+    count_fits(rule, position, n, count)
 }
 
 // The test of one node: on its word, its entry, its position and the needed verdict; it sees no other word.
-pub fn node<'a>(
+pub fn node_fits<'a>(
     prefix: &'a [u32],
     again: &'a [u32],
     table: &[u32],
+    entry: Entry,
     e: usize,
     position: usize,
     needed: Verdict,
     word: u32,
-) -> Plan
-    requires { ⌜ Within (length (now prefix)) (length (now again)) e position ⌝ }
-    ensures { λ r. ⌜ Judges (scheduleFrame (now (prefix .entry)) (now (again .entry))) (now (table .entry)) e position needed (nodeOf word) r ⌝ }
+) -> bool
+    requires { ⌜ Within (length (now prefix)) (length (now again)) e position × (entry ≡ entryAt (now table) e) ⌝ }
+    ensures { λ r. ⌜ Tested (scheduleFrame (now (prefix .entry)) (now (again .entry))) (claim (formulaOf (now (table .entry)) e) position needed) (nodeOf word) r ⌝ }
 {
-    let entry = entry_at(table, e);
     match decode(word) {
         Word::Atom(rule, atom, number) => {
-            atom_plan(
+            atom_fits(
                 letter(prefix, again, position),
                 entry,
                 position,
@@ -444,9 +439,9 @@ pub fn node<'a>(
                 number,
             )
         }
-        Word::Plain(rule) => plain_plan(entry, position, needed, rule),
+        Word::Plain(rule) => suits(rule, entry, needed),
         Word::Counted(rule, n) => {
-            list_plan(
+            list_fits(
                 prefix.len(),
                 again.len(),
                 table,
@@ -457,7 +452,7 @@ pub fn node<'a>(
                 n,
             )
         }
-        Word::Malformed => Plan::Wrong,
+        Word::Malformed => false,
     }
 }
 
@@ -496,10 +491,16 @@ pub fn walk<'a>(
     if tree.len() <= at {
         return Step::Bad(at);
     }
-    let plan = node(prefix, again, table, e, position, needed, tree[at]);
-    let Plan::Go(demands) = plan else {
+    let word = tree[at];
+    let here = entry_at(table, e);
+    if !node_fits(prefix, again, table, here, e, position, needed, word) {
         return Step::Bad(at);
-    };
+    }
+    let rule = rule_of(word);
+    if rule < 3 {
+        return Step::Next(at + 1); // rules 1 and 2: most nodes are these, and have no parts
+    }
+    let demands = demands_of(here, position, needed, rule, (word % 65536) as usize);
     let verdict = demands.verdict;
     let parts = demands.fixed + demands.count;
     let mut next = at + 1;

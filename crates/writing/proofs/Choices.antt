@@ -6,16 +6,16 @@ use Prim.Native.Nat.{ℕ, _+_, _-_}
 use native.Mathlib.Numerals.{add-one}
 use borrow.Author.Tests.{eq-eqb, ne-eqb}
 use Rattle.search.specs.Cells.{proOf, conOf}
-use Rattle.writing.specs.Scans.{sizeIn, stepFrom, membersOf, listedOf}
+use Rattle.writing.specs.Scans.{priceIn, stepFrom, membersOf, listedOf}
 use Rattle.writing.specs.Roots.{sidedOf, orRule, andRule}
 
-pub size-held : (held : Bool) (c : ℕ) → held ≡ true → proOf c ≡ sizeIn held c
-unfolding sizeIn
-size-held held c h = simp h
+pub price-held : (held : Bool) (c : ℕ) → held ≡ true → proOf c ≡ priceIn held c
+unfolding priceIn
+price-held held c h = simp h
 
-pub size-not : (held : Bool) (c : ℕ) → held ≡ false → conOf c ≡ sizeIn held c
-unfolding sizeIn
-size-not held c h = simp h
+pub price-not : (held : Bool) (c : ℕ) → held ≡ false → conOf c ≡ priceIn held c
+unfolding priceIn
+price-not held c h = simp h
 
 pub step-ahead : (ahead : Bool) (i n : ℕ) → ahead ≡ true → i + n ≡ stepFrom ahead i n
 unfolding stepFrom
@@ -49,27 +49,27 @@ pub sided-not : (held : Bool) (rule : ℕ) → held ≡ false → rule + 1 ≡ s
 unfolding sidedOf
 sided-not held rule h = simp h
 
-module _ (held : Bool) (left size : ℕ) where
-  pub or-violated : held ≡ false → 7 ≡ orRule held left size
+module _ (held : Bool) (left price : ℕ) where
+  pub or-violated : held ≡ false → 7 ≡ orRule held left price
   unfolding orRule
   or-violated h = simp h
 
-  pub or-left : {x : ℕ} → held ≡ true → x ≡ proOf left → 1 + x ≡ size → 5 ≡ orRule held left size
+  pub or-left : {x : ℕ} → held ≡ true → x ≡ proOf left → 1 + x ≡ price → 5 ≡ orRule held left price
   unfolding orRule
-  or-left h e met = simp (h, eq-eqb (1 + proOf left) size (ap (λ n. 1 + n) (sym e) ∙ met))
+  or-left h e met = simp (h, eq-eqb (1 + proOf left) price (ap (λ n. 1 + n) (sym e) ∙ met))
 
-  pub or-right : {x : ℕ} → held ≡ true → x ≡ proOf left → ¬ (1 + x ≡ size) → 6 ≡ orRule held left size
+  pub or-right : {x : ℕ} → held ≡ true → x ≡ proOf left → ¬ (1 + x ≡ price) → 6 ≡ orRule held left price
   unfolding orRule
-  or-right h e miss = simp (h, ne-eqb (1 + proOf left) size (λ met. miss (ap (λ n. 1 + n) e ∙ met)))
+  or-right h e miss = simp (h, ne-eqb (1 + proOf left) price (λ met. miss (ap (λ n. 1 + n) e ∙ met)))
 
-  pub and-holds : held ≡ true → 8 ≡ andRule held left size
+  pub and-holds : held ≡ true → 8 ≡ andRule held left price
   unfolding andRule
   and-holds h = simp h
 
-  pub and-left : {x : ℕ} → held ≡ false → x ≡ conOf left → 1 + x ≡ size → 9 ≡ andRule held left size
+  pub and-left : {x : ℕ} → held ≡ false → x ≡ conOf left → 1 + x ≡ price → 9 ≡ andRule held left price
   unfolding andRule
-  and-left h e met = simp (h, eq-eqb (1 + conOf left) size (ap (λ n. 1 + n) (sym e) ∙ met))
+  and-left h e met = simp (h, eq-eqb (1 + conOf left) price (ap (λ n. 1 + n) (sym e) ∙ met))
 
-  pub and-right : {x : ℕ} → held ≡ false → x ≡ conOf left → ¬ (1 + x ≡ size) → 10 ≡ andRule held left size
+  pub and-right : {x : ℕ} → held ≡ false → x ≡ conOf left → ¬ (1 + x ≡ price) → 10 ≡ andRule held left price
   unfolding andRule
-  and-right h e miss = simp (h, ne-eqb (1 + conOf left) size (λ met. miss (ap (λ n. 1 + n) e ∙ met)))
+  and-right h e miss = simp (h, ne-eqb (1 + conOf left) price (λ met. miss (ap (λ n. 1 + n) e ∙ met)))

@@ -6,12 +6,13 @@ use Prim.Native.Nat.{ℕ, _+_}
 use lib.ListN.{length}
 use Rattle.rules.specs.Formula.{Formula}
 use Rattle.trees.specs.Rules.{Frame}
+use Rattle.trees.specs.Least.{Cost}
 use Rattle.trees.proofs.Order.{least-one}
 use Rattle.trees.proofs.WordOrder.{words-one}
 use Rattle.writing.specs.Writes.{put, Writes}
 
-pub writes-one : {frame : Frame} {f : Formula} {i at : ℕ} {found left left′ : List ℕ} {next next′ : ℕ}
-    → Writes frame f i at found left next → Writes frame f i at found left′ next′ → (left ≡ left′) × (next ≡ next′)
+pub writes-one : {cost : Cost} {frame : Frame} {f : Formula} {i at : ℕ} {found left left′ : List ℕ} {next next′ : ℕ}
+    → Writes cost frame f i at found left next → Writes cost frame f i at found left′ next′ → (left ≡ left′) × (next ≡ next′)
 writes-one {at = at} {found} a b =
     let same = words-one (a .words) (b .words) (least-one (a .least) (b .least)) in
     (a .leaves ∙ ap (λ ws. put at ws found) same ∙ sym (b .leaves), a .ends ∙ ap (λ ws. at + length ws) same ∙ sym (b .ends))

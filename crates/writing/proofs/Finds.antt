@@ -7,11 +7,10 @@ use mathlib.Core.Logic.{by-cases}
 use mathlib.Core.List.{List, _∷_}
 use native.Mathlib.Decide.{decLt}
 use native.Mathlib.Omega.{arith}
-use lib.ListN.{length}
 use Rattle.rules.specs.Formula.{Formula}
 use Rattle.trees.specs.Nodes.{Node, node}
 use Rattle.trees.specs.Rules.{Frame, claim}
-use Rattle.trees.specs.Least.{ones, NodeBefore, byRule, byNumber, Least}
+use Rattle.trees.specs.Least.{Cost, costOf, NodeBefore, byRule, byNumber, Least}
 use Rattle.trees.specs.declared.Verdict.{Verdict}
 use Rattle.theory.specs.Frames.{Lawful}
 use Rattle.theory.specs.Costs.{cutOff}
@@ -32,22 +31,22 @@ members-far true n k lt = omega arith
 members-far false n k lt = omega arith
 
 -- the scan ends at the last step or before
-ends-by : {witness member : ℕ → ℕ} {held : Bool} {size far : ℕ} {r : Met} → ¬ Missed witness member held size far
-    → (s : Scanned witness member held size r) → s .far ≤ far
+ends-by : {witness member : ℕ → ℕ} {held : Bool} {price far : ℕ} {r : Met} → ¬ Missed witness member held price far
+    → (s : Scanned witness member held price r) → s .far ≤ far
 ends-by {far = far} meets s = by-cases (decLt far (s .far)) (λ lt. absurd (meets (s .missed far lt))) (λ ge. omega arith)
 
 -- The scan ends with the witness far steps off, with a first part or with the list alone.
-pub record Ends (witness member : ℕ → ℕ) (held : Bool) (size far : ℕ) (alone : Bool) : Type 0 where
-  pub meets : ¬ Missed witness member held size far
-  pub found : {r : Met} → Scanned witness member held size r → (r .alone ≡ alone) × (r .count ≡ membersOf held far)
+pub record Ends (witness member : ℕ → ℕ) (held : Bool) (price far : ℕ) (alone : Bool) : Type 0 where
+  pub meets : ¬ Missed witness member held price far
+  pub found : {r : Met} → Scanned witness member held price r → (r .alone ≡ alone) × (r .count ≡ membersOf held far)
 
 -- A claim whose roots have lists: with the witness far steps off, and those after that far enough.
-module _ {frame : Frame} (law : Lawful frame) (exists : (f : Formula) (i : ℕ) → (us : List Node) × Least ones frame f i us)
-    {f : Formula} {i : ℕ} {y : Node} {ws : List Node} (l : Least ones frame f i (y ∷ ws)) {s : Verdict}
-    {size : ℕ} (sized : suc (length ws) ≡ size) (small : size < cutOff)
-    (witness member : ℕ → ℕ) (held : Bool) (rule far : ℕ)
+module _ {cost : Cost} {frame : Frame} (law : Lawful frame) (exists : (f : Formula) (i : ℕ) → (us : List Node) × Least cost frame f i us)
+    {f : Formula} {i : ℕ} {y : Node} {ws : List Node} (l : Least cost frame f i (y ∷ ws)) {s : Verdict}
+    {price : ℕ} (priced : costOf cost (y ∷ ws) ≡ price) (small : price < cutOff)
+    (witness member : ℕ → ℕ) (held : Bool) (rule far : ℕ) (one : cost .weigh rule 0 ≡ 1)
     (firsts : (n : ℕ) → n ≤ far
-    → Costed frame (claim f i s) (node rule 0 (membersOf held n)) (witness n + sumRun member 0 (membersOf held n)))
+    → Costed cost frame (claim f i s) (node rule 0 (membersOf held n)) (witness n + sumRun member 0 (membersOf held n)))
     (some-witness : 1 ≤ witness far) (some : (n : ℕ) → n ≤ far → 1 ≤ member n) where
   rises : (n : ℕ) → n ≤ far → listCost member held n ≤ listCost member held far
   rises n le = by-cases (decLt n far)
@@ -59,16 +58,16 @@ module _ {frame : Frame} (law : Lawful frame) (exists : (f : Formula) (i : ℕ) 
       let more = members-less held n far lt in
       omega (arith, more, sum-grows member (membersOf held n) (membersOf held far) (omega (arith, more)) (λ k h. some k (members-far held far k h)))
 
-  -- no root with a witness nearer meets the size, and none of this rule does where the least tree has a later one
-  unmet : (n : ℕ) → n ≤ far → NodeBefore (node rule 0 (membersOf held n)) y → ¬ (listCost member held n + witness n ≡ size)
-  unmet n le b e = none-before law exists l (omega (arith, sized, small)) (firsts n le) (omega (arith, sized, e)) b
+  -- no root with a witness nearer meets the price, and none of this rule does where the least tree has a later one
+  unmet : (n : ℕ) → n ≤ far → NodeBefore (node rule 0 (membersOf held n)) y → ¬ (listCost member held n + witness n ≡ price)
+  unmet n le b e = none-before law exists l (omega (arith, priced, small)) (firsts n le) (omega (arith, one, priced, e)) b
 
   -- the least tree has a first part
   module _ (is : y ≡ node rule 0 (membersOf held far)) where
-    first-meets : listCost member held far + witness far ≡ size
-    first-meets = omega (arith, own-meets law exists l (omega (arith, sized, small)) (rw (sym is) at (firsts far (omega arith))), sized)
+    first-meets : listCost member held far + witness far ≡ price
+    first-meets = omega (arith, one, ap (λ z. cost .weigh (z .rule) (z .atom)) is, own-meets law exists l (omega (arith, priced, small)) (rw (sym is) at (firsts far (omega arith))), priced)
 
-    first-found : {r : Met} → Scanned witness member held size r → (r .alone ≡ false) × (r .count ≡ membersOf held far)
+    first-found : {r : Met} → Scanned witness member held price r → (r .alone ≡ false) × (r .count ≡ membersOf held far)
     first-found {r} a = by (r .alone) refl where
       le : a .far ≤ far
       le = ends-by (λ m. m .with-first first-meets) a
@@ -79,15 +78,15 @@ module _ {frame : Frame} (law : Lawful frame) (exists : (f : Formula) (i : ℕ) 
           (λ lt. absurd (unmet (a .far) le (rw is (byNumber refl refl (members-less held (a .far) far lt))) (a .with-first e)))
           (λ ge. let same : a .far ≡ far = omega (arith, le) in (e, a .count ∙ ap (membersOf held) same))
 
-    pub first-ends : Ends witness member held size far false
+    pub first-ends : Ends witness member held price far false
     first-ends = record { meets = λ m. m .with-first first-meets; found = first-found }
 
   -- the least tree has the list alone, by the rule after
-  module _ (is : y ≡ node (suc rule) 0 (membersOf held far)) (c : Costed frame (claim f i s) (node (suc rule) 0 (membersOf held far)) (sumRun member 0 (membersOf held far))) where
-    alone-meets : listCost member held far ≡ size
-    alone-meets = omega (arith, own-meets law exists l (omega (arith, sized, small)) (rw (sym is) at c), sized)
+  module _ (next : cost .weigh (suc rule) 0 ≡ 1) (is : y ≡ node (suc rule) 0 (membersOf held far)) (c : Costed cost frame (claim f i s) (node (suc rule) 0 (membersOf held far)) (sumRun member 0 (membersOf held far))) where
+    alone-meets : listCost member held far ≡ price
+    alone-meets = omega (arith, next, ap (λ z. cost .weigh (z .rule) (z .atom)) is, own-meets law exists l (omega (arith, priced, small)) (rw (sym is) at c), priced)
 
-    alone-found : {r : Met} → Scanned witness member held size r → (r .alone ≡ true) × (r .count ≡ membersOf held far)
+    alone-found : {r : Met} → Scanned witness member held price r → (r .alone ≡ true) × (r .count ≡ membersOf held far)
     alone-found {r} a = by (r .alone) refl where
       le : a .far ≤ far
       le = ends-by (λ m. m .without alone-meets) a
@@ -99,5 +98,5 @@ module _ {frame : Frame} (law : Lawful frame) (exists : (f : Formula) (i : ℕ) 
           (λ lt. absurd (omega (arith, a .without e, rises-more (a .far) lt, alone-meets)))
           (λ ge. let same : a .far ≡ far = omega (arith, le) in (e, a .count ∙ ap (membersOf held) same))
 
-    pub alone-ends : Ends witness member held size far true
+    pub alone-ends : Ends witness member held price far true
     alone-ends = record { meets = λ m. m .without alone-meets; found = alone-found }

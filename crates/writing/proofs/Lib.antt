@@ -5,7 +5,7 @@ pub mod Words
 pub mod Sums
 pub mod Meets
 pub mod Finds
-pub mod PartSizes
+pub mod PartPrices
 pub mod ListRoots
 pub mod ListFinds
 pub mod PlainFinds

@@ -11,20 +11,20 @@ use native.Mathlib.Omega.{arith}
 use Rattle.theory.specs.RunCosts.{sumRun}
 use Rattle.theory.proofs.CostsRuns.{run-grown}
 use Rattle.search.specs.Rows.{rowOf}
-use Rattle.writing.specs.Scans.{sizeIn, stepFrom, membersOf, listedOf, sizesFrom, listCost, Missed, Reached, Scanned}
+use Rattle.writing.specs.Scans.{priceIn, stepFrom, membersOf, listedOf, pricesFrom, listCost, Missed, Reached, Scanned}
 
--- No witness nearer meets the size, and the sum is that of the root and the members before n.
-pub record Scanning (witness member : ℕ → ℕ) (held ahead : Bool) (i size n sum : ℕ) : Type 0 where
-  pub reached : Reached witness member held ahead i size
+-- No witness nearer meets the price, and the sum is that of the root and the members before n.
+pub record Scanning (witness member : ℕ → ℕ) (held ahead : Bool) (i price n sum : ℕ) : Type 0 where
+  pub reached : Reached witness member held ahead i price
   pub within : n ≤ reached .far
-  pub missed : (k : ℕ) → k < n → Missed witness member held size k
+  pub missed : (k : ℕ) → k < n → Missed witness member held price k
   pub sums : sum ≡ 1 + sumRun member 0 n
   pub bound : sum ≤ 1 + 65535 * n
 
--- the size that a row has n steps from the position, at its place
-pub size-at : (work : List ℕ) (row : ℕ) (held ahead : Bool) (i n : ℕ) {place x : ℕ}
-    → place ≡ stepFrom ahead i n → x ≡ sizeIn held (rowOf work row place) → x ≡ sizesFrom (rowOf work row) held ahead i n
-size-at work row held ahead i n at e = e ∙ ap (λ p. sizeIn held (rowOf work row p)) at
+-- the price that a row has n steps from the position, at its place
+pub price-at : (work : List ℕ) (row : ℕ) (held ahead : Bool) (i n : ℕ) {place x : ℕ}
+    → place ≡ stepFrom ahead i n → x ≡ priceIn held (rowOf work row place) → x ≡ pricesFrom (rowOf work row) held ahead i n
+price-at work row held ahead i n at e = e ∙ ap (λ p. priceIn held (rowOf work row p)) at
 
 listed-bound : (held : Bool) (sum next : ℕ) → listedOf held sum next ≤ sum + next
 unfolding listedOf
@@ -41,8 +41,8 @@ unfolding listedOf membersOf
 list-cost member true n sum next s e = s
 list-cost member false n sum next s e = omega (arith, sum-grown member n, s, e)
 
-module _ {witness member : ℕ → ℕ} {held ahead : Bool} {i size : ℕ} where
-  pub scan-none : Reached witness member held ahead i size → Scanning witness member held ahead i size 0 1
+module _ {witness member : ℕ → ℕ} {held ahead : Bool} {i price : ℕ} where
+  pub scan-none : Reached witness member held ahead i price → Scanning witness member held ahead i price 0 1
   scan-none r = record {
     reached = r;
     within = omega arith;
@@ -51,7 +51,7 @@ module _ {witness member : ℕ → ℕ} {held ahead : Bool} {i size : ℕ} where
     bound = omega arith;
   }
 
-  module _ {n sum : ℕ} (s : Scanning witness member held ahead i size n sum) where
+  module _ {n sum : ℕ} (s : Scanning witness member held ahead i price n sum) where
     pub scan-near : i + n < 1024
     scan-near = omega (arith, s .within, s .reached .inside)
 
@@ -71,8 +71,8 @@ module _ {witness member : ℕ → ℕ} {held ahead : Bool} {i size : ℕ} where
       costs : list ≡ listCost member held n
       costs = l ∙ list-cost member held n sum next (s .sums) e
 
-      pub scan-with : {count first : ℕ} → first ≡ witness n → list + first ≡ size → count ≡ membersOf held n
-          → Scanned witness member held size (record { count = count; alone = false })
+      pub scan-with : {count first : ℕ} → first ≡ witness n → list + first ≡ price → count ≡ membersOf held n
+          → Scanned witness member held price (record { count = count; alone = false })
       scan-with f met c = record {
         far = n;
         count = c;
@@ -81,8 +81,8 @@ module _ {witness member : ℕ → ℕ} {held ahead : Bool} {i size : ℕ} where
         without = λ t. absurd (true≢false (sym t));
       }
 
-      pub scan-alone : {count : ℕ} → list ≡ size → count ≡ membersOf held n
-          → Scanned witness member held size (record { count = count; alone = true })
+      pub scan-alone : {count : ℕ} → list ≡ price → count ≡ membersOf held n
+          → Scanned witness member held price (record { count = count; alone = true })
       scan-alone met c = record {
         far = n;
         count = c;
@@ -91,18 +91,18 @@ module _ {witness member : ℕ → ℕ} {held ahead : Bool} {i size : ℕ} where
         without = λ _. sym costs ∙ met;
       }
 
-      pub scan-turn : {first : ℕ} → first ≡ witness n → next ≤ 65535 → ¬ (list + first ≡ size) → ¬ (list ≡ size)
-          → Scanning witness member held ahead i size (n + 1) (sum + next)
+      pub scan-turn : {first : ℕ} → first ≡ witness n → next ≤ 65535 → ¬ (list + first ≡ price) → ¬ (list ≡ price)
+          → Scanning witness member held ahead i price (n + 1) (sum + next)
       scan-turn f le some none =
-          let miss : Missed witness member held size n = record {
+          let miss : Missed witness member held price n = record {
             with-first = λ met. some (omega (arith, costs, f, met));
             without = λ met. none (costs ∙ met);
           } in
           record {
             reached = s .reached;
             within = by-cases (decLt n (s .reached .far)) (λ lt. omega arith)
-                (λ ge. absurd (s .reached .meets (subst (Missed witness member held size) (omega (arith, s .within)) miss)));
-            missed = λ k lt. by-cases (decLt k n) (s .missed k) (λ ge. subst (Missed witness member held size) (omega arith) miss);
+                (λ ge. absurd (s .reached .meets (subst (Missed witness member held price) (omega (arith, s .within)) miss)));
+            missed = λ k lt. by-cases (decLt k n) (s .missed k) (λ ge. subst (Missed witness member held price) (omega arith) miss);
             sums = omega (arith, sum-grown member n, s .sums, e, ap (sumRun member 0) (add-one n));
             bound = omega (arith, s .bound);
           }

@@ -1,24 +1,25 @@
 // The least tree, written from the filled work slice: at each node the first root whose cost meets the cell, and then its parts.
+use rules::Binary;
 use rules::Entry;
 use rules::entry_at;
 use search::con;
 use search::holds;
 use search::pro;
-use trees::Plan;
-use trees::claimed;
-use trees::node;
+use trees::demands_of;
 use trees::part_at;
+use trees::proven;
 ghost use mathlib.Core.Path.{_≡_};
 ghost use Prim.Native.Nat.{_+_, _≤_, _<_};
 ghost use mathlib.Core.Bool.{true, false, cond};
 ghost use lib.ListN.{length};
-ghost use Rattle.rules.specs.Tables.{formulaOf};
-ghost use Rattle.trees.specs.Nodes.{node as nodeWith, nodeOf};
+ghost use Rattle.rules.specs.Tables.{entryAt, formulaOf};
+ghost use Rattle.trees.specs.Nodes.{nodeOf};
 ghost use Rattle.trees.specs.Frames.{scheduleFrame};
+ghost use Rattle.trees.specs.Least.{ones};
 ghost use Rattle.search.specs.Rows.{rowOf};
-ghost use Rattle.writing.specs.Scans.{sizeIn, stepFrom, membersOf, listedOf, sizesFrom, Reached, Scanned};
+ghost use Rattle.writing.specs.Scans.{priceIn, stepFrom, membersOf, listedOf, pricesFrom, Reached, Scanned};
 ghost use Rattle.writing.specs.Roots.{sidedOf, orRule, andRule, ListRoot, Readable, RootFor};
-ghost use Rattle.writing.specs.Writes.{cellSize, Writable, Leads, Writes};
+ghost use Rattle.writing.specs.Writes.{cellPrice, Writable, Room, rootNode, Rooted, Writes};
 
 // Where a scan ends: how many members the list has, and whether it stands alone, with no first part before it.
 pub struct Met {
@@ -32,9 +33,9 @@ pub struct Root {
     pub number: usize,
 }
 
-// The size of a tree of the verdict, or 4,096.
+// The price of a tree of the verdict, or 4,096.
 fn part(cell: u16, held: bool) -> u32
-    ensures { λ r. ⌜ (r ≡ sizeIn held cell) × (r ≤ 65535) ⌝ }
+    ensures { λ r. ⌜ (r ≡ priceIn held cell) × (r ≤ 65535) ⌝ }
 {
     if held {
         return pro(cell);
@@ -75,7 +76,7 @@ fn listed(sum: u32, member: u32, held: bool) -> u32
     sum + member
 }
 
-// The first witness, going ahead or back from the position, at which a root with its parts has the size, or its list alone has.
+// The first witness, going ahead or back from the position, at which a root with its parts has the price, or its list alone has.
 fn scan(
     work: &[u16],
     witness: usize,
@@ -83,11 +84,11 @@ fn scan(
     position: usize,
     held: bool,
     ahead: bool,
-    size: u32,
+    price: u32,
 ) -> Met
     requires { ⌜ (16384 ≤ length (now work)) × (witness < 32) × (member < 32)
-        × Reached (sizesFrom (rowOf (now work) witness) held ahead position) (sizesFrom (rowOf (now work) member) held ahead position) held ahead position size ⌝ }
-    ensures { λ r. ⌜ Scanned (sizesFrom (rowOf (now (work .entry)) witness) held ahead position) (sizesFrom (rowOf (now (work .entry)) member) held ahead position) held size r ⌝ }
+        × Reached (pricesFrom (rowOf (now work) witness) held ahead position) (pricesFrom (rowOf (now work) member) held ahead position) held ahead position price ⌝ }
+    ensures { λ r. ⌜ Scanned (pricesFrom (rowOf (now (work .entry)) witness) held ahead position) (pricesFrom (rowOf (now (work .entry)) member) held ahead position) held price r ⌝ }
 {
     let mut sum: u32 = 1;
     let mut n = 0;
@@ -95,13 +96,13 @@ fn scan(
         let place = step_from(position, n, ahead);
         let next = part(work[member * 512 + place], held);
         let list = listed(sum, next, held);
-        if list + part(work[witness * 512 + place], held) == size {
+        if list + part(work[witness * 512 + place], held) == price {
             return Met {
                 count: members(n, held),
                 alone: false,
             };
         }
-        if list == size {
+        if list == price {
             return Met {
                 count: members(n, held),
                 alone: true,
@@ -120,22 +121,22 @@ fn list_root(
     position: usize,
     held: bool,
     ahead: bool,
-    size: u32,
+    price: u32,
     rule: usize,
 ) -> Root
     requires { ⌜ (rule ≤ 14) × (16384 ≤ length (now work)) × (left < 32) × (right < 32)
-        × Reached (sizesFrom (rowOf (now work) (cond held right left)) held ahead position) (sizesFrom (rowOf (now work) (cond held left right)) held ahead position) held ahead position size ⌝ }
-    ensures { λ r. ⌜ ListRoot (now (work .entry)) left right position held ahead size rule r ⌝ }
+        × Reached (pricesFrom (rowOf (now work) (cond held right left)) held ahead position) (pricesFrom (rowOf (now work) (cond held left right)) held ahead position) held ahead position price ⌝ }
+    ensures { λ r. ⌜ ListRoot (now (work .entry)) left right position held ahead price rule r ⌝ }
 {
     if held {
-        let met = scan(work, right, left, position, true, ahead, size);
+        let met = scan(work, right, left, position, true, ahead, price);
         return Root {
             rule,
             atom: 0,
             number: met.count,
         };
     }
-    let met = scan(work, left, right, position, false, ahead, size);
+    let met = scan(work, left, right, position, false, ahead, price);
     if met.alone {
         return Root {
             rule: rule + 2,
@@ -162,26 +163,26 @@ fn sided(held: bool, rule: usize) -> usize
 }
 
 // Rules 5 to 7: the left part where it is as small as any.
-fn or_rule(held: bool, left: u16, size: u32) -> usize
-    ensures { λ r. ⌜ r ≡ orRule held left size ⌝ }
+fn or_rule(held: bool, left: u16, price: u32) -> usize
+    ensures { λ r. ⌜ r ≡ orRule held left price ⌝ }
 {
     if !held {
         return 7;
     }
-    if 1 + pro(left) == size {
+    if 1 + pro(left) == price {
         return 5;
     }
     6
 }
 
 // Rules 8 to 10.
-fn and_rule(held: bool, left: u16, size: u32) -> usize
-    ensures { λ r. ⌜ r ≡ andRule held left size ⌝ }
+fn and_rule(held: bool, left: u16, price: u32) -> usize
+    ensures { λ r. ⌜ r ≡ andRule held left price ⌝ }
 {
     if held {
         return 8;
     }
-    if 1 + con(left) == size {
+    if 1 + con(left) == price {
         return 9;
     }
     10
@@ -197,10 +198,10 @@ fn plain_root(rule: usize) -> Root
     }
 }
 
-// The first root of an entry's kind, in the order of the words, that has the size with its parts.
-fn root_of(work: &[u16], entry: Entry, position: usize, held: bool, size: u32) -> Root
-    requires { ⌜ (16384 ≤ length (now work)) × (position < 512) × Readable (now work) entry position held size ⌝ }
-    ensures { λ r. ⌜ RootFor (now (work .entry)) entry position held size r ⌝ }
+// The first root of an entry's kind, in the order of the words, that has the price with its parts.
+fn root_of(work: &[u16], entry: Entry, position: usize, held: bool, price: u32) -> Root
+    requires { ⌜ (16384 ≤ length (now work)) × (position < 512) × Readable (now work) entry position held price ⌝ }
+    ensures { λ r. ⌜ RootFor (now (work .entry)) entry position held price r ⌝ }
 {
     match entry {
         Entry::Atom(a) => Root {
@@ -208,11 +209,13 @@ fn root_of(work: &[u16], entry: Entry, position: usize, held: bool, size: u32) -
             atom: a,
             number: position,
         },
-        Entry::Not(_) => plain_root(sided(held, 3)),
-        Entry::Or(l, _) => plain_root(or_rule(held, work[l * 512 + position], size)),
-        Entry::And(l, _) => plain_root(and_rule(held, work[l * 512 + position], size)),
-        Entry::Since(l, r) => list_root(work, l, r, position, held, false, size, 11),
-        Entry::Until(l, r) => list_root(work, l, r, position, held, true, size, 14),
+        Entry::One(_, _) => plain_root(sided(held, 3)),
+        Entry::Two(op, l, r) => match op {
+            Binary::Or => plain_root(or_rule(held, work[l * 512 + position], price)),
+            Binary::And => plain_root(and_rule(held, work[l * 512 + position], price)),
+            Binary::Since => list_root(work, l, r, position, held, false, price, 11),
+            Binary::Until => list_root(work, l, r, position, held, true, price, 14),
+        },
         Entry::Broken => Root {
             rule: sided(held, 1),
             atom: 0,
@@ -223,33 +226,28 @@ fn root_of(work: &[u16], entry: Entry, position: usize, held: bool, size: u32) -
 
 fn word(root: Root) -> u32
     requires { ⌜ (root .rule < 256) × (root .atom < 256) × (root .number < 65536) ⌝ }
-    ensures { λ r. ⌜ nodeOf r ≡ nodeWith (root .rule) (root .atom) (root .number) ⌝ }
+    ensures { λ r. ⌜ nodeOf r ≡ rootNode root ⌝ }
 {
     root.rule as u32 * 16777216 + root.atom as u32 * 65536 + root.number as u32
 }
 
-// The root's word of the least tree of an entry at a position.
+// The root of the least tree of an entry at a position.
 fn lead<'a>(
     prefix: &'a [u32],
     again: &'a [u32],
     words: &[u32],
     work: &[u16],
+    here: Entry,
     entry: usize,
     position: usize,
-) -> u32
-    requires { ⌜ Writable (now prefix) (now again) (now words) entry position (now work) ⌝ }
-    ensures { λ r. ⌜ Leads (scheduleFrame (now (prefix .entry)) (now (again .entry))) (formulaOf (now (words .entry)) entry) position
-        (cellSize (rowOf (now (work .entry)) entry position)) (nodeOf r) ⌝ }
+) -> Root
+    requires { ⌜ Writable ones (now prefix) (now again) (now words) entry position (now work) × (here ≡ entryAt (now words) entry) ⌝ }
+    ensures { λ r. ⌜ Rooted ones (scheduleFrame (now (prefix .entry)) (now (again .entry))) (formulaOf (now (words .entry)) entry) position
+        (cellPrice (rowOf (now (work .entry)) entry position)) r ⌝ }
 {
     let cell = work[entry * 512 + position];
     let held = holds(cell);
-    word(root_of(
-        work,
-        entry_at(words, entry),
-        position,
-        held,
-        part(cell, held),
-    ))
+    root_of(work, here, position, held, part(cell, held))
 }
 
 // Writes the least tree of an entry at a position into the tree buffer, from a place on; answers the place behind it. It calls itself for
@@ -264,19 +262,17 @@ pub fn write<'a>(
     position: usize,
     at: usize,
 ) -> usize
-    requires { ⌜ Writable (now prefix) (now again) (now words) entry position (now work) × (at + cellSize (rowOf (now work) entry position) ≤ length (now tree)) ⌝ }
-    ensures { λ r. ⌜ Writes (scheduleFrame (now (prefix .entry)) (now (again .entry))) (formulaOf (now (words .entry)) entry) position at
+    requires { ⌜ Writable ones (now prefix) (now again) (now words) entry position (now work) × Room ones (scheduleFrame (now prefix) (now again)) (formulaOf (now words) entry) position at (length (now tree)) ⌝ }
+    ensures { λ r. ⌜ Writes ones (scheduleFrame (now (prefix .entry)) (now (again .entry))) (formulaOf (now (words .entry)) entry) position at
         (now (tree .entry)) (now (tree .exit)) r ⌝ }
 {
-    let first = lead(prefix, again, words, work, entry, position);
-    tree[at] = first;
-    if first / 16777216 < 3 {
-        return at + 1; // rules 1 and 2: most nodes are these, and have no parts to plan
+    let here = entry_at(words, entry);
+    let root = lead(prefix, again, words, work, here, entry, position);
+    tree[at] = word(root);
+    if root.rule < 3 {
+        return at + 1; // rules 1 and 2: most nodes are these, and have no parts
     }
-    let plan = node(prefix, again, words, entry, position, claimed(first), first);
-    let Plan::Go(demands) = plan else {
-        return at;
-    };
+    let demands = demands_of(here, position, proven(root.rule), root.rule, root.number);
     let parts = demands.fixed + demands.count;
     let mut next = at + 1;
     let mut m = 0;

@@ -1,73 +1,76 @@
--- `chickvessel::accept_table` meets its contract: a case of the answer a return; the record of a list that passes begins with the list.
+-- `chickvessel::accept_table` meets its contract: the tests in order, a return for each that fails.
 -- Assumes nothing.
-use mathlib.Core.Path.{refl, sym, ap, subst₂, _∙_}
-use native.Mathlib.Omega.{arith}
-use denote.Ref.{now}
-use Rattle.rules.specs.Tables.{readFigures}
-use Rattle.rules.specs.Asked.{askRefusal}
-use Rattle.chickvessel.specs.Accepted.{Hands, orElse, farRefusal}
-use Rattle.chickvessel.specs.declared.Outcome.the-variants.{NoTable, BadEntry}
-use Rattle.chickvessel.proofs.Accepting.{bare-number, hands-refused, hands-first, hands-later, table-read, table-fits, table-words}
+use mathlib.Core.Path.{_≡_, sym, _∙_}
+use mathlib.Core.Bool.{true, _&&_}
+use mathlib.Core.List.{List}
+use Prim.Native.Nat.{ℕ}
 use borrow.Author.Needs.{needs}
+use borrow.Author.Tests.{not-true, not-false, lt-ltb, le-ltb, le-leb, lt-leb}
+use lib.Dec.{leb, ltb}
+use lib.ListN.{length}
+use denote.Ref.{now}
+use Rattle.schedule.specs.Limits.{maxEntries}
+use Rattle.schedule.specs.Tests.{none, also, here, later}
+use Rattle.rules.specs.Tables.{keepsAll}
+use Rattle.rules.specs.Low.{lowAll}
+use Rattle.chickvessel.specs.Looked.{shuts, lets-by}
+use Rattle.chickvessel.proofs.Accepting.{count-none, count-many, count-passes}
 use Rattle.chickvessel.proofs.accept_table.Statement.{statement}
 use Rattle.chickvessel.proofs.accept_table.Tie as tie
 
-read-requires : tie.Need-read-requires
-read-requires c κs = search needs
-
-enum-told : tie.Need-enum-told
-enum-told c = search needs
-
-refused-requires : tie.Need-refused-requires
-refused-requires c κs = search needs
-
-enum-told-2 : tie.Need-enum-told-2
-enum-told-2 c = search needs
-
-refused-requires-2 : tie.Need-refused-requires-2
-refused-requires-2 c κs = search needs
-
-enum-told-3 : tie.Need-enum-told-3
-enum-told-3 c = search needs
-
-accept-entry-requires : tie.Need-accept-entry-requires
-accept-entry-requires c κs =
-    let read = c .before .before .before in
-    table-fits (now (read .before .before .args .list)) _ (table-read _ _ (read .read .ensures) (bare-number (sym (read .read .ensures .figures) ∙ ap readFigures (c .enum-told3 .given .1))))
-
 returns : tie.Need-returns
-returns c =
-    let read = c .before .before .before .before in
-    let number = bare-number (sym (read .read .ensures .figures) ∙ ap readFigures (c .before .enum-told .given .1)) in
-    hands-first _ _ 3 _ number (λ z. omega arith) (hands-refused 3 _ NoTable (c .refused .ensures .0) (c .refused .ensures .1) refl (λ z. omega arith))
+returns c = shuts (here (count-none _ (c .if1 .taken)))
 
 returns-2 : tie.Need-returns-2
-returns-2 c =
-    let read = c .before .before .before .before in
-    let number = bare-number (sym (read .read .ensures .figures) ∙ ap readFigures (c .before .enum-told2 .given .1)) in
-    hands-first _ _ 4 _ number (λ z. omega arith) (hands-refused 4 _ BadEntry (c .refused2 .ensures .0) (c .refused2 .ensures .1) refl (λ z. omega arith))
+returns-2 c = shuts (here (count-many _ (c .if2 .taken)))
+
+-- past the tests of the count
+module _ (c : tie.Else2) where
+  abbrev table : List ℕ
+  table = now (c .before .before .before .args .words)
+
+  counted : (ltb 0 (length table) && leb (length table) maxEntries) ≡ true
+  counted = count-passes (length table) (c .before .if1 .left) (c .if2 .left)
+
+all-keep-requires : tie.Need-all-keep-requires
+all-keep-requires c κs = search needs
 
 returns-3 : tie.Need-returns-3
-returns-3 c =
-    let read = c .before .before .before .before in
-    let args = c .before .before .before .before .before .before .args in
-    let number = bare-number (sym (read .read .ensures .figures) ∙ ap readFigures (c .before .enum-told3 .given .1)) in
-    let table = table-read _ _ (read .read .ensures) number in
-    hands-later _ _ _ number
-    (subst₂ (λ list table. Hands (orElse (askRefusal list (args .entry)) (farRefusal (args .position))) (args .lengths) table (c .accept-entry .result))
-    (table-words _ _ table) table (c .accept-entry .ensures))
+returns-3 c = shuts (later (counted (c .before .before)) (here (sym (c .before .all-keep .ensures) ∙ not-true _ (c .if3 .taken))))
+
+kept-all : (c : tie.Else3) → keepsAll (table (c .before .before)) ≡ true
+kept-all c = sym (c .before .all-keep .ensures) ∙ not-false _ (c .if3 .left)
+
+all-low-requires : tie.Need-all-low-requires
+all-low-requires c κs = search needs
+
+returns-4 : tie.Need-returns-4
+returns-4 c =
+    let kept = c .before .before in
+    shuts (later (counted (kept .before .before)) (later (kept-all kept) (here (sym (c .before .all-low .ensures) ∙ not-true _ (c .if4 .taken)))))
+
+low-all : (c : tie.Else4) → lowAll (table (c .before .before .before .before)) ≡ true
+low-all c = sym (c .before .all-low .ensures) ∙ not-false _ (c .if4 .left)
+
+returns-5 : tie.Need-returns-5
+returns-5 c =
+    let low = c .before in
+    let kept = low .before .before in
+    shuts (later (counted (kept .before .before)) (later (kept-all kept) (later (low-all low) (here (le-ltb _ _ (c .if5 .taken))))))
+
+returns-6 : tie.Need-returns-6
+returns-6 c =
+    let low = c .before .before in
+    let kept = low .before .before in
+    shuts (later (counted (kept .before .before)) (later (kept-all kept) (later (low-all low) (later (lt-ltb _ _ (c .before .if5 .left)) (here (lt-leb _ _ (c .if6 .taken)))))))
+
+returns-7 : tie.Need-returns-7
+returns-7 c =
+    let low = c .before .before in
+    let kept = low .before .before in
+    lets-by (also (counted (kept .before .before)) (also (kept-all kept) (also (low-all low) (also (lt-ltb _ _ (c .before .if5 .left)) (also (le-leb _ _ (c .if6 .left)) none)))))
 
 pub accept-table-spec : {M : Type 1} → statement M
 accept-table-spec =
     tie.close
-    (tie.spec
-    read-requires
-    enum-told
-    refused-requires
-    enum-told-2
-    refused-requires-2
-    enum-told-3
-    accept-entry-requires
-    returns
-    returns-2
-    returns-3)
+    (tie.spec returns returns-2 all-keep-requires returns-3 all-low-requires returns-4 returns-5 returns-6 returns-7)

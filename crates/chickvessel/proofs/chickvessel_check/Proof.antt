@@ -13,7 +13,7 @@ answer-of-requires : tie.Need-answer-of-requires
 answer-of-requires c κs = search needs
 
 returns : tie.Need-returns
-returns c = subst (Checked _ _ _ _ _ _) (sym (c .answer-of .ensures)) (c .before .check .ensures)
+returns c = subst (Checked _ _) (sym (c .answer-of .ensures)) (c .before .check .ensures)
 
 pub chickvessel-check-spec : {M : Type 1} → statement M
 chickvessel-check-spec = tie.close (tie.spec check-requires answer-of-requires returns)

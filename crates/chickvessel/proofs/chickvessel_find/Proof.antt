@@ -16,7 +16,7 @@ same-length : tie.Need-same-length
 same-length c = search needs
 
 returns : tie.Need-returns
-returns c = subst (Found _ _ _ _ _ _ _) (sym (c .answer-of .ensures)) (c .before .before .before .find .ensures)
+returns c = subst (Found _ _ _) (sym (c .answer-of .ensures)) (c .before .before .before .find .ensures)
 
 pub chickvessel-find-spec : {M : Type 1} → statement M
 chickvessel-find-spec =

@@ -16,7 +16,7 @@ same-length : tie.Need-same-length
 same-length c = search needs
 
 returns : tie.Need-returns
-returns c = subst (Told _ _ _ _ _ _ _) (sym (c .answer-of .ensures)) (c .before .before .before .truth .ensures)
+returns c = subst (Told _ _ _) (sym (c .answer-of .ensures)) (c .before .before .before .truth .ensures)
 
 pub chickvessel-truth-spec : {M : Type 1} → statement M
 chickvessel-truth-spec =

@@ -19,7 +19,7 @@ same-length-2 : tie.Need-same-length-2
 same-length-2 c = search needs
 
 returns : tie.Need-returns
-returns c = subst (Wrote _ _ _ _ _ _ _ _ _) (sym (c .answer-of .ensures)) (c .before .before .before .before .before .write .ensures)
+returns c = subst (Wrote _ _ _ _ _) (sym (c .answer-of .ensures)) (c .before .before .before .before .before .write .ensures)
 
 pub chickvessel-write-spec : {M : Type 1} → statement M
 chickvessel-write-spec =

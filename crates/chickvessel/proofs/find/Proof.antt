@@ -8,8 +8,8 @@ use Rattle.chickvessel.proofs.find.Tie as tie
 look-up-requires : tie.Need-look-up-requires
 look-up-requires c κs = search needs
 
-enum-known-outcome : tie.Need-enum-known-outcome
-enum-known-outcome c = search needs
+enum-known-refusal : tie.Need-enum-known-refusal
+enum-known-refusal c = search needs
 
 enum-known-cell : tie.Need-enum-known-cell
 enum-known-cell c = search needs
@@ -21,7 +21,7 @@ same-length : tie.Need-same-length
 same-length c = search needs
 
 returns : tie.Need-returns
-returns c = looked-refused (c .before .before .before .before .before .look-up .ensures) (c .before .outcome .given .1)
+returns c = looked-refused (c .before .before .before .before .before .look-up .ensures) (c .before .refusal .given .1)
 
 same-length-2 : tie.Need-same-length-2
 same-length-2 c = search needs
@@ -34,7 +34,7 @@ find-spec =
     tie.close
     (tie.spec
     look-up-requires
-    enum-known-outcome
+    enum-known-refusal
     enum-known-cell
     found-by-requires
     same-length

@@ -5,21 +5,21 @@ use borrow.Author.Needs.{needs}
 use Rattle.chickvessel.proofs.found_by.Statement.{statement}
 use Rattle.chickvessel.proofs.found_by.Tie as tie
 
-size-in-requires : tie.Need-size-in-requires
-size-in-requires c κs = search needs
+price-in-requires : tie.Need-price-in-requires
+price-in-requires c κs = search needs
 
 cast-if1 : tie.Need-cast-if1
 cast-if1 c = search needs
 
 returns : tie.Need-returns
-returns c = found-none _ _ (c .before .size-in .ensures) (c .if1 .taken)
+returns c = found-none _ _ (c .before .price-in .ensures) (c .if1 .taken)
 
 verdict-in-requires : tie.Need-verdict-in-requires
 verdict-in-requires c κs = search needs
 
 returns-2 : tie.Need-returns-2
-returns-2 c = found-least _ _ _ (c .verdict-in .ensures) (c .before .before .size-in .ensures) (c .before .if1 .left)
+returns-2 c = found-least _ _ _ (c .verdict-in .ensures) (c .before .before .price-in .ensures) (c .before .if1 .left)
 
 pub found-by-spec : {M : Type 1} → statement M
 found-by-spec =
-    tie.close (tie.spec size-in-requires cast-if1 returns verdict-in-requires returns-2)
+    tie.close (tie.spec price-in-requires cast-if1 returns verdict-in-requires returns-2)

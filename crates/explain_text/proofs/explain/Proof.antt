@@ -64,7 +64,7 @@ write-requires : tie.Need-write-requires
 write-requires c κs = search needs
 
 rendered-requires : tie.Need-rendered-requires
-rendered-requires c κs = wrote-few (c .before .before .before .write .ensures)
+rendered-requires c κs = let write = c .before .before .before in wrote-few (write .write .result) (write .write .ensures)
 
 returns-3 : tie.Need-returns-3
 returns-3 c =

@@ -8,7 +8,7 @@ use borrow.Author.Tests.{not-true, not-false}
 use lib.ListN.{length}
 use denote.Ref.{now}
 use Rattle.rules.specs.Tables.{allBelow}
-use Rattle.rules.specs.Asked.{lowAt, lowAll}
+use Rattle.rules.specs.Low.{lowAt, lowAll}
 use Rattle.rules.proofs.Below.{all-more, all-stop, all-done}
 use Rattle.rules.proofs.all_low.Statement.{statement}
 use Rattle.rules.proofs.all_low.Tie as tie

@@ -21,15 +21,6 @@ enum-told-3 c = search needs
 enum-told-4 : tie.Need-enum-told-4
 enum-told-4 c = search needs
 
-enum-told-5 : tie.Need-enum-told-5
-enum-told-5 c = search needs
-
-enum-told-6 : tie.Need-enum-told-6
-enum-told-6 c = search needs
-
-enum-told-7 : tie.Need-enum-told-7
-enum-told-7 c = search needs
-
 returns : tie.Need-returns
 returns c = ap kept (sym (c .enum-told .given .1) ∙ c .before .before .decode .ensures)
 
@@ -42,15 +33,6 @@ returns-3 c = ap kept (sym (c .enum-told3 .given .1) ∙ c .before .before .deco
 returns-4 : tie.Need-returns-4
 returns-4 c = ap kept (sym (c .enum-told4 .given .1) ∙ c .before .before .decode .ensures)
 
-returns-5 : tie.Need-returns-5
-returns-5 c = ap kept (sym (c .enum-told5 .given .1) ∙ c .before .before .decode .ensures)
-
-returns-6 : tie.Need-returns-6
-returns-6 c = ap kept (sym (c .enum-told6 .given .1) ∙ c .before .before .decode .ensures)
-
-returns-7 : tie.Need-returns-7
-returns-7 c = ap kept (sym (c .enum-told7 .given .1) ∙ c .before .before .decode .ensures)
-
 pub keeps-spec : {M : Type 1} → statement M
 keeps-spec =
     tie.close
@@ -60,13 +42,7 @@ keeps-spec =
     enum-told-2
     enum-told-3
     enum-told-4
-    enum-told-5
-    enum-told-6
-    enum-told-7
     returns
     returns-2
     returns-3
-    returns-4
-    returns-5
-    returns-6
-    returns-7)
+    returns-4)

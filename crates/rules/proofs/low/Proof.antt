@@ -6,7 +6,7 @@ use native.Mathlib.Omega.{arith}
 use borrow.Author.Needs.{needs}
 use lib.Dec.{leb}
 use denote.Ref.{now}
-use Rattle.rules.specs.Asked.{lowAt}
+use Rattle.rules.specs.Low.{lowAt}
 use Rattle.rules.specs.declared.Side.the-variants.{Past, Future}
 use Rattle.rules.proofs.Heights.{height-bound}
 use Rattle.rules.proofs.low.Statement.{statement}

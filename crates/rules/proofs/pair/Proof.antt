@@ -1,9 +1,12 @@
 -- `rules::pair` meets its contract: a row of the kind table a return.
 -- Assumes nothing.
-use mathlib.Core.Path.{sym, _∙_}
+use mathlib.Core.Path.{_≡_, sym, _∙_}
+use mathlib.Core.Bool.{true}
+use native.Mathlib.Omega.{arith}
 use borrow.Author.Needs.{needs}
 use borrow.Author.Tests.{not-true, not-false}
-use Rattle.rules.proofs.Entries.{pair-late, pair-kind, pair-none}
+use Rattle.rules.specs.Entries.{areEarlier}
+use Rattle.rules.proofs.Entries.{pair-late, pair-kind, pair-below, pair-past}
 use Rattle.rules.proofs.pair.Statement.{statement}
 use Rattle.rules.proofs.pair.Tie as tie
 
@@ -13,25 +16,22 @@ earlier-requires c κs = search needs
 returns : tie.Need-returns
 returns c = pair-late _ _ _ _ (sym (c .before .earlier .ensures) ∙ not-true _ (c .if1 .taken))
 
+-- past the test both parts are earlier entries
+passed : (c : tie.Else1) → let a = c .before .before .args in areEarlier (a .index) (a .left) (a .right) ≡ true
+passed c = sym (c .before .earlier .ensures) ∙ not-false _ (c .if1 .left)
+
+joint-requires : tie.Need-joint-requires
+joint-requires c κs = search needs
+
 returns-2 : tie.Need-returns-2
-returns-2 c = pair-kind _ _ _ _ 2 (sym (c .before .before .earlier .ensures) ∙ not-false _ (c .before .if1 .left)) (c .match .keys1)
+returns-2 c =
+    pair-kind _ _ _ _ _ (passed (c .before .before .before)) (omega arith) (omega arith) (c .joint .ensures)
 
 returns-3 : tie.Need-returns-3
-returns-3 c = pair-kind _ _ _ _ 3 (sym (c .before .before .earlier .ensures) ∙ not-false _ (c .before .if1 .left)) (c .match .keys2)
+returns-3 c = pair-below _ _ _ _ (passed (c .before)) (omega arith)
 
 returns-4 : tie.Need-returns-4
-returns-4 c = pair-kind _ _ _ _ 4 (sym (c .before .before .earlier .ensures) ∙ not-false _ (c .before .if1 .left)) (c .match .keys3)
-
-returns-5 : tie.Need-returns-5
-returns-5 c = pair-kind _ _ _ _ 5 (sym (c .before .before .earlier .ensures) ∙ not-false _ (c .before .if1 .left)) (c .match .keys4)
-
-returns-6 : tie.Need-returns-6
-returns-6 c =
-    pair-none _ _ _ _ (sym (c .before .before .earlier .ensures) ∙ not-false _ (c .before .if1 .left))
-    (c .match .rest .0 .0 .0 .1)
-    (c .match .rest .0 .0 .1)
-    (c .match .rest .0 .1)
-    (c .match .rest .1)
+returns-4 c = pair-past _ _ _ _ (passed (c .before .before)) (omega arith)
 
 pub pair-spec : {M : Type 1} → statement M
-pair-spec = tie.close (tie.spec earlier-requires returns returns-2 returns-3 returns-4 returns-5 returns-6)
+pair-spec = tie.close (tie.spec earlier-requires returns joint-requires returns-2 returns-3 returns-4)

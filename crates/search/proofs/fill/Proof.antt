@@ -5,19 +5,20 @@ use lib.ListN.{length}
 use native.Mathlib.Omega.{arith}
 use borrow.Author.Needs.{needs}
 use Rattle.trees.specs.Frames.{scheduleFrame}
+use Rattle.trees.specs.Least.{ones}
 use Rattle.search.specs.Filling.{Fills}
 use Rattle.search.proofs.Driven.{fills-none, fills-turn, fills-done, limited-earlier}
 use Rattle.search.proofs.fill.Statement.{statement}
 use Rattle.search.proofs.fill.Tie as tie
 
 abbrev Inv-loop : tie.InvT-loop
-Inv-loop prefix again words work₀ entry row₀ work row = (row ≤ entry + 1) × Fills (scheduleFrame prefix again) words (length again) row work₀ work
+Inv-loop prefix again words work₀ entry reach row₀ work row = (row ≤ entry + 1) × Fills ones (scheduleFrame prefix again) words reach (length again) row work₀ work
 
 abbrev μ-loop : tie.MeasureT-loop
-μ-loop prefix again words work₀ entry row₀ work row = entry + 1 - row
+μ-loop prefix again words work₀ entry reach row₀ work row = entry + 1 - row
 
 loop-holds : tie.Need-loop-holds Inv-loop μ-loop
-loop-holds c = (omega arith, fills-none _ _ _ _)
+loop-holds c = (omega arith, fills-none _ _ _ _ _ _)
 
 fill-row-requires : tie.Need-fill-row-requires Inv-loop μ-loop
 fill-row-requires c κs =

@@ -1,28 +1,19 @@
--- `trees::claimed` meets its contract: a case a return.
+-- `trees::claimed` meets its contract.
 -- Assumes nothing.
-use mathlib.Core.Path.{refl}
-use Rattle.trees.proofs.Plans.{claimed-none, claimed-past, claimed-holds, claimed-violated}
+use mathlib.Core.Path.{ap, _∙_}
 use borrow.Author.Needs.{needs}
+use Rattle.trees.specs.Plans.{provenBy}
 use Rattle.trees.proofs.claimed.Statement.{statement}
 use Rattle.trees.proofs.claimed.Tie as tie
 
-cast-rule : tie.Need-cast-rule
-cast-rule c = search needs
+rule-of-requires : tie.Need-rule-of-requires
+rule-of-requires c κs = search needs
+
+proven-requires : tie.Need-proven-requires
+proven-requires c κs = search needs
 
 returns : tie.Need-returns
-returns c = claimed-none _ _ refl (c .if1 .taken)
-
-returns-2 : tie.Need-returns-2
-returns-2 c = claimed-past _ _ refl (c .if2 .taken)
-
-sign-requires : tie.Need-sign-requires
-sign-requires c κs = search needs
-
-returns-3 : tie.Need-returns-3
-returns-3 c = claimed-holds _ _ refl _ (c .before .sign .ensures) (c .if3 .taken)
-
-returns-4 : tie.Need-returns-4
-returns-4 c = claimed-violated _ _ refl _ (c .before .sign .ensures) (c .if3 .left)
+returns c = c .proven .ensures ∙ ap provenBy (c .before .rule-of .ensures)
 
 pub claimed-spec : {M : Type 1} → statement M
-claimed-spec = tie.close (tie.spec cast-rule returns returns-2 sign-requires returns-3 returns-4)
+claimed-spec = tie.close (tie.spec rule-of-requires proven-requires returns)

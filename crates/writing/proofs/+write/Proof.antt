@@ -3,35 +3,36 @@
 -- Assumes nothing.
 use Prim.Native.Nat.{ℕ, suc, _+_, _-_, _<_, _≤_}
 use mathlib.Core.Path.{_≡_, refl, sym, ap, subst, _∙_}
-use mathlib.Core.List.{List}
+use mathlib.Core.List.{List, _∷_}
 use native.Mathlib.Omega.{arith}
 use borrow.Author.Needs.{needs}
 use borrow.Fn.Kinds.{In}
 use borrow.Fn.PlainCycle.{Measures, is, falls, and}
-use lib.ListN.{length, length-set}
+use lib.ListN.{length, getD, length-set}
+use lib.Seq.{getD-set-same}
 use denote.Ref.{now}
 use Rattle.rules.specs.Tables.{formulaOf}
-use Rattle.trees.specs.Nodes.{nodeOf}
+use Rattle.rules.proofs.entry_at.Reads as entry-at
+use Rattle.trees.specs.Nodes.{Node, nodeOf}
 use Rattle.trees.specs.Rules.{Claim, claim}
 use Rattle.trees.specs.Frames.{scheduleFrame}
-use Rattle.trees.specs.Plans.{claimsOf, claimedBy}
-use Rattle.trees.specs.Walks.{Judges}
+use Rattle.trees.specs.Plans.{claimsOf}
 use Rattle.trees.specs.declared.Demands.{Demands}
-use Rattle.trees.specs.declared.Plan.{Plan}
-use Rattle.trees.specs.declared.Plan.the-variants.{Wrong, Go}
 use Rattle.trees.proofs.Claims.{claims-length}
-use Rattle.search.specs.Rows.{rowOf}
-use Rattle.writing.specs.Writes.{cellSize, Writable}
+use Rattle.trees.proofs.proven.Reads as proven
+use Rattle.trees.proofs.demands_of.Reads as demands-of
+use Rattle.trees.proofs.part_at.Reads as part-at
+use Rattle.trees.specs.Least.{ones, Least}
+use Rattle.theory.proofs.Horizon.{ones-atoms}
+use Rattle.writing.specs.Writes.{Writable, Room, rootNode}
 use Rattle.writing.proofs.Underway.{Underway, underway-none, underway-length, underway-more, underway-done}
-use Rattle.writing.proofs.Planned.{Planned, writable-within, leaf-writes, root-right, planned, part-is, part-near, part-writable}
+use Rattle.writing.proofs.Planned.{Planned, leaf-writes, countable, planned, part-is, part-near, part-writable}
 use Rattle.writing.proofs.Leading.{writable-inside}
 use Rattle.writing.proofs.write.Reads as write
 use Rattle.writing.proofs.write.Kinds as write-kinds
 use Rattle.writing.proofs.+write.Lts-write as lts
-use Rattle.trees.proofs.claimed.Reads as claimed
-use Rattle.trees.proofs.node.Reads as node
-use Rattle.trees.proofs.part_at.Reads as part-at
 use Rattle.writing.proofs.lead.Reads as lead
+use Rattle.writing.proofs.word.Reads as word
 use Rattle.writing.proofs.+write.{statement}
 use Rattle.writing.proofs.+write.Tie.{close}
 
@@ -45,142 +46,160 @@ abbrev write-below : ℕ → In 4 write-kinds.ps
 write-below t = and 4 write-kinds.ps (falls 4 write-kinds.ps _<_ μ-write t) write.Pre
 
 abbrev claims : ℕ → lts.Claims
-claims t = (lead.Asked, lead.Learnt, claimed.Asked, claimed.Learnt, node.Asked, node.Learnt, part-at.Asked, part-at.Learnt, write-below t, write.Post)
+claims t = (
+  entry-at.Asked,
+  entry-at.Learnt,
+  lead.Asked,
+  lead.Learnt,
+  word.Asked,
+  word.Learnt,
+  proven.Asked,
+  proven.Learnt,
+  demands-of.Asked,
+  demands-of.Learnt,
+  part-at.Asked,
+  part-at.Learnt,
+  write-below t,
+  write.Post,
+)
 
--- what stands behind the root, whichever least tree it is the root of
-record Behind (prefix loop table : List ℕ) (e i at : ℕ) (work : List ℕ) (first : ℕ) (demands : Demands) (found tree : List ℕ) (next m : ℕ) : Type 0 where
-  plan : Planned prefix loop table e i work first demands
-  passed : Underway (scheduleFrame prefix loop) (claimsOf table demands) (plan .below) (at + 1) found tree next m
+-- the root whose word stands at the place, and what stands behind it
+record Behind (prefix loop table : List ℕ) (e i at : ℕ) (work : List ℕ) (demands : Demands) (found tree : List ℕ) (next m : ℕ) : Type 0 where
+  root : Node
+  rooted : nodeOf (getD found at 0) ≡ root
+  plan : Planned ones prefix loop table e i work root demands
+  passed : Underway ones (scheduleFrame prefix loop) (claimsOf table demands) (plan .below) (at + 1) found tree next m
 
 abbrev Inv-loop : lts.InvT-loop
-Inv-loop prefix again words work tree₀ entry position at first demands parts next₀ m₀ tree next m =
-    Behind prefix again words entry position at work first demands tree₀ tree next m × (m ≤ parts)
+Inv-loop prefix again words work tree₀ entry position at demands parts next₀ m₀ tree next m =
+    Behind prefix again words entry position at work demands tree₀ tree next m × (m ≤ parts)
 
 abbrev μ-loop : lts.MeasureT-loop
-μ-loop prefix again words work tree₀ entry position at first demands parts next₀ m₀ tree next m = parts - m
+μ-loop prefix again words work tree₀ entry position at demands parts next₀ m₀ tree next m = parts - m
 
 module _ (t : ℕ) where
-  abbrev begun : lts.After-node (claims t) (write-at t) write.Post Inv-loop μ-loop → lts.Start (claims t) (write-at t) write.Post Inv-loop μ-loop
-  begun k = k .before .before .before .before .before .before .before .before .before
-
-  abbrev asked : (k : lts.After-node (claims t) (write-at t) write.Post Inv-loop μ-loop)
-      → Writable (now (begun k .args .prefix)) (now (begun k .args .again)) (now (begun k .args .words)) (begun k .args .entry) (begun k .args .position) (now (begun k .args .work))
-  asked k = begun k .pre .1 .0
-
-  -- what the test of the root says
-  judged : (k : lts.After-node (claims t) (write-at t) write.Post Inv-loop μ-loop) (plan : Plan) → k .node .result ≡ plan
-      → Judges (scheduleFrame (now (begun k .args .prefix)) (now (begun k .args .again))) (now (begun k .args .words)) (begun k .args .entry) (begun k .args .position)
-      (claimedBy (k .before .before .before .lead .result)) (nodeOf (k .before .before .before .lead .result)) plan
-  judged k plan e =
-      let a = begun k .args in
-      let w = k .before .before .before .lead .result in
-      let frame = scheduleFrame (now (a .prefix)) (now (a .again)) in
-      subst (Judges frame (now (a .words)) (a .entry) (a .position) (claimedBy w) (nodeOf w)) e
-      (subst (λ s. Judges frame (now (a .words)) (a .entry) (a .position) s (nodeOf w) (k .node .result)) (k .before .claimed .ensures) (k .node .ensures))
+  entry-at-requires : lts.Need-entry-at-requires (claims t) (write-at t) write.Post Inv-loop μ-loop
+  entry-at-requires c κs = search needs
 
   lead-requires : lts.Need-lead-requires (claims t) (write-at t) write.Post Inv-loop μ-loop
-  lead-requires c κs = c .before .before .before .before .before .pre .1 .0
+  lead-requires c κs = (c .before .before .before .before .before .before .pre .1 .0, c .entry-at .ensures)
 
-  -- the root's word has room
-  rooted : (c : lts.After-lead (claims t) (write-at t) write.Post Inv-loop μ-loop) → let a = c .before .before .before .before .before .before .args in a .at < length (now (a .tree))
-  rooted c = omega (arith, c .before .before .before .before .before .before .pre .1 .1, c .lead .ensures .sized)
+  -- the root that was found
+  module _ (k : lts.After-lead (claims t) (write-at t) write.Post Inv-loop μ-loop) where
+    abbrev begun : lts.Start (claims t) (write-at t) write.Post Inv-loop μ-loop
+    begun = k .before .before .before .before .before .before .before
+
+    abbrev asked : Writable ones (now (begun .args .prefix)) (now (begun .args .again)) (now (begun .args .words)) (begun .args .entry) (begun .args .position) (now (begun .args .work))
+    asked = begun .pre .1 .0
+
+    abbrev root : Node
+    root = rootNode (k .lead .result)
+
+    -- its word has room
+    room : begun .args .at < length (now (begun .args .tree))
+    room = omega (arith, begun .pre .1 .1 .room _ (k .lead .ensures .leads .least))
+
+  word-requires : lts.Need-word-requires (claims t) (write-at t) write.Post Inv-loop μ-loop
+  word-requires c κs = let fits = c .lead .ensures in (fits .rule-fits, fits .atom-fits, fits .number-fits)
 
   mul-tree : lts.Need-mul-tree (claims t) (write-at t) write.Post Inv-loop μ-loop
-  mul-tree c = search needs
+  mul-tree c = let there = room (c .before) in let long = begun (c .before) .good .1 .1 .1 .1 .0 .0 in search needs
 
   slice-write-tree : lts.Need-slice-write-tree (claims t) (write-at t) write.Post Inv-loop μ-loop
-  slice-write-tree c = rooted c
+  slice-write-tree c = room (c .before)
 
   add-result : lts.Need-add-result (claims t) (write-at t) write.Post Inv-loop μ-loop
-  add-result c = omega (arith, rooted (c .before), c .before .before .before .before .before .before .before .good .1 .1 .1 .1 .0 .0)
+  add-result c = let k = c .before .before .before in omega (arith, room k, begun k .good .1 .1 .1 .1 .0 .0)
 
   same-length : lts.Need-same-length (claims t) (write-at t) write.Post Inv-loop μ-loop
   same-length c = search needs
 
   returns : lts.Need-returns (claims t) (write-at t) write.Post Inv-loop μ-loop
   returns c =
-      let a = c .before .before .before .before .before .before .before in
-      leaf-writes (a .pre .1 .0) (c .before .lead .result) (c .before .lead .ensures) (a .args .at) (now (a .args .tree)) (a .pre .1 .1) (c .if1 .taken)
+      let w = c .before .before in
+      let k = w .before in
+      let a = begun k in
+      leaf-writes ones-atoms (asked k) (root k) (k .lead .ensures .leads) (w .word .result) (a .args .at) (now (a .args .tree)) (w .word .ensures) (a .pre .1 .1) (c .if1 .taken)
 
-  claimed-requires : lts.Need-claimed-requires (claims t) (write-at t) write.Post Inv-loop μ-loop
-  claimed-requires c κs = search needs
+  proven-requires : lts.Need-proven-requires (claims t) (write-at t) write.Post Inv-loop μ-loop
+  proven-requires c κs = search needs
 
-  node-requires : lts.Need-node-requires (claims t) (write-at t) write.Post Inv-loop μ-loop
-  node-requires c κs = writable-within (c .before .before .before .before .before .before .before .before .pre .1 .0)
+  demands-of-requires : lts.Need-demands-of-requires (claims t) (write-at t) write.Post Inv-loop μ-loop
+  demands-of-requires c κs =
+      let k = c .before .before .before .before in
+      let low = c .before .if1 .left in
+      (low, countable ones-atoms (asked k) (root k) (k .lead .ensures .leads) low (k .lead .ensures .number-fits))
 
-  enum-known-plan : lts.Need-enum-known-plan (claims t) (write-at t) write.Post Inv-loop μ-loop
-  enum-known-plan c = search needs
+  module _ (p : lts.After-demands-of (claims t) (write-at t) write.Post Inv-loop μ-loop) where
+    abbrev worded : lts.After-word (claims t) (write-at t) write.Post Inv-loop μ-loop
+    worded = p .before .before .before .before
 
-  enum-told : lts.Need-enum-told (claims t) (write-at t) write.Post Inv-loop μ-loop
-  enum-told c = search needs
+    abbrev led : lts.After-lead (claims t) (write-at t) write.Post Inv-loop μ-loop
+    led = worded .before
 
-  same-length-2 : lts.Need-same-length-2 (claims t) (write-at t) write.Post Inv-loop μ-loop
-  same-length-2 c = search needs
+    abbrev start : lts.Start (claims t) (write-at t) write.Post Inv-loop μ-loop
+    start = begun led
 
-  returns-2 : lts.Need-returns-2 (claims t) (write-at t) write.Post Inv-loop μ-loop
-  returns-2 c =
-      let k = c .before .before in
-      absurd (root-right (asked k) (k .before .before .before .lead .result) (k .before .before .before .lead .ensures) (judged k Wrong (c .enum-told .given .1)))
+    abbrev demands : Demands
+    demands = p .demands-of .result
 
-  abbrev demands : lts.After-plan (claims t) (write-at t) write.Post Inv-loop μ-loop → Demands
-  demands p = p .plan .given .0 .0
+    -- the root once its parts are planned
+    abbrev made : Planned ones (now (start .args .prefix)) (now (start .args .again)) (now (start .args .words)) (start .args .entry) (start .args .position) (now (start .args .work)) (root led) demands
+    made =
+        planned ones-atoms (asked led) (root led) (led .lead .ensures .leads) (p .before .before .if1 .left) (led .lead .ensures .number-fits)
+        (led .before .entry-at .ensures) (p .before .proven .ensures) (p .demands-of .ensures)
 
-  -- the root once its parts are planned
-  abbrev made : (p : lts.After-plan (claims t) (write-at t) write.Post Inv-loop μ-loop) → let a = begun (p .before .before) .args in
-      Planned (now (a .prefix)) (now (a .again)) (now (a .words)) (a .entry) (a .position) (now (a .work)) (p .before .before .before .before .before .lead .result) (demands p)
-  made p =
-      let k = p .before .before in
-      planned (asked k) (k .before .before .before .lead .result) (k .before .before .before .lead .ensures) (judged k (Go (demands p)) (p .plan .given .1))
+    -- no more parts than a number can count
+    few : demands .from + demands .count < 1000000
+    few = omega (arith, made .earlier .last, writable-inside (asked led) .column)
 
-  -- no more parts than a number can count
-  few : (p : lts.After-plan (claims t) (write-at t) write.Post Inv-loop μ-loop) → demands p .from + demands p .count < 1000000
-  few p = omega (arith, made p .earlier .last, writable-inside (asked (p .before .before)) .column)
-
-  there : (p : lts.After-plan (claims t) (write-at t) write.Post Inv-loop μ-loop)
-      → begun (p .before .before) .args .at + suc (length (made p .below)) ≤ length (now (begun (p .before .before) .args .tree))
-  there p = omega (arith, begun (p .before .before) .pre .1 .1, made p .sized)
+    there : start .args .at + suc (length (made .below)) ≤ length (now (start .args .tree))
+    there = omega (arith, start .pre .1 .1 .room _ (made .least))
 
   add-parts : lts.Need-add-parts (claims t) (write-at t) write.Post Inv-loop μ-loop
-  add-parts c = omega (arith, few (c .before .before), made (c .before .before) .earlier .one)
+  add-parts c = omega (arith, few (c .before), made (c .before) .earlier .one)
 
   add-next : lts.Need-add-next (claims t) (write-at t) write.Post Inv-loop μ-loop
-  add-next c = omega (arith, there (c .before .before), begun (c .before .before .before .before) .good .1 .1 .1 .1 .0 .0)
+  add-next c = omega (arith, there (c .before), start (c .before) .good .1 .1 .1 .1 .0 .0)
 
   loop-holds : lts.Need-loop-holds (claims t) (write-at t) write.Post Inv-loop μ-loop
   loop-holds c =
-      let p = c .before .before in
-      let a = begun (p .before .before) .args in (
+      let p = c .before in
+      let a = start p .args in
+      let w = worded p .word .result in (
         record {
+          root = root (led p);
+          rooted = ap nodeOf (getD-set-same (now (a .tree)) (a .at) w 0 (room (led p))) ∙ worded p .word .ensures;
           plan = made p;
-          passed = underway-none (a .at + 1) _ (omega (arith, there p, length-set (now (a .tree)) (a .at) (p .before .before .before .before .before .lead .result))) (made p .parts);
+          passed = underway-none (a .at + 1) _ (omega (arith, there p, length-set (now (a .tree)) (a .at) w)) (made p .parts);
         },
         search needs,
       )
 
   part-at-requires : lts.Need-part-at-requires (claims t) (write-at t) write.Post Inv-loop μ-loop
-  part-at-requires c κs = (c .loop-test .taken, omega (arith, few (c .before .before .before .before)))
+  part-at-requires c κs = (c .loop-test .taken, omega (arith, few (c .before .before .before)))
 
   module _ (c : lts.After-part-at (claims t) (write-at t) write.Post Inv-loop μ-loop) where
     abbrev at-loop : lts.At-loop (claims t) (write-at t) write.Post Inv-loop μ-loop
     at-loop = c .before .before
 
-    abbrev plan : lts.After-plan (claims t) (write-at t) write.Post Inv-loop μ-loop
-    plan = at-loop .before .before .before
+    abbrev plan : lts.After-demands-of (claims t) (write-at t) write.Post Inv-loop μ-loop
+    plan = at-loop .before .before
 
     abbrev root-claim : Claim
-    root-claim = let a = begun (plan .before .before) .args in claim (formulaOf (now (a .words)) (a .entry)) (a .position) (demands plan .verdict)
+    root-claim = let a = start plan .args in claim (formulaOf (now (a .words)) (a .entry)) (a .position) (demands plan .verdict)
 
   write-requires : lts.Need-write-requires (claims t) (write-at t) write.Post Inv-loop μ-loop
   write-requires c κs =
       let k = c .before in
-      let a = begun (plan k .before .before) in
+      let a = start (plan k) in
       let b = at-loop k .loop .inv .0 in
       let taken = k .before .loop-test .taken in
       let part = k .part-at .ensures in (
-        omega (arith, ap (λ p. p .entry) part, part-near (asked (plan k .before .before)) (b .plan) (b .passed) taken (root-claim k), a .pre .0),
-        subst (λ p. Writable (now (a .args .prefix)) (now (a .args .again)) (now (a .args .words)) (p .entry) (p .position) (now (a .args .work))
-            × (at-loop k .loop .next + cellSize (rowOf (now (a .args .work)) (p .entry) (p .position)) ≤ length (at-loop k .loop .tree))) (sym part)
-            (part-writable (asked (plan k .before .before)) (b .plan) (b .passed) taken (root-claim k)),
+        omega (arith, ap (λ p. p .entry) part, part-near ones-atoms (b .plan) (b .passed) taken (root-claim k), a .pre .0),
+        subst (λ p. Writable ones (now (a .args .prefix)) (now (a .args .again)) (now (a .args .words)) (p .entry) (p .position) (now (a .args .work))
+            × Room ones (scheduleFrame (now (a .args .prefix)) (now (a .args .again))) (formulaOf (now (a .args .words)) (p .entry)) (p .position) (at-loop k .loop .next) (length (at-loop k .loop .tree))) (sym part)
+            (part-writable ones-atoms (b .plan) (b .passed) taken (root-claim k)),
       )
 
   add-m : lts.Need-add-m (claims t) (write-at t) write.Post Inv-loop μ-loop
@@ -195,47 +214,50 @@ module _ (t : ℕ) where
   loop-again c =
       let w = c .before .before in
       let k = w .before .before in
-      let a = begun (plan k .before .before) .args in
+      let a = start (plan k) .args in
       let b = at-loop k .loop .inv .0 in
       let taken = k .before .loop-test .taken in
       let d = demands (plan k) in
       let same = ap (λ p. claim (formulaOf (now (a .words)) (p .entry)) (p .position) (d .verdict)) (k .part-at .ensures)
-      ∙ sym (part-is (asked (plan k .before .before)) (b .plan) (b .passed) taken (root-claim k)) in (
+      ∙ sym (part-is ones-atoms (b .plan) (b .passed) taken (root-claim k)) in (
         record {
+          root = b .root;
+          rooted = b .rooted;
           plan = b .plan;
           passed = underway-more (b .passed) (root-claim k) (omega (arith, claims-length (now (a .words)) d, taken)) _ same (w .write .ensures);
         },
         omega (arith, taken),
       )
 
-  same-length-3 : lts.Need-same-length-3 (claims t) (write-at t) write.Post Inv-loop μ-loop
-  same-length-3 c =
-      let p = c .before .before .before .before in
-      let a = begun (p .before .before) .args in
-      underway-length (c .before .loop .inv .0 .passed) ∙ length-set (now (a .tree)) (a .at) (p .before .before .before .before .before .lead .result)
+  same-length-2 : lts.Need-same-length-2 (claims t) (write-at t) write.Post Inv-loop μ-loop
+  same-length-2 c =
+      let p = c .before .before .before in
+      let a = start p .args in
+      underway-length (c .before .loop .inv .0 .passed) ∙ length-set (now (a .tree)) (a .at) (worded p .word .result)
 
-  returns-3 : lts.Need-returns-3 (claims t) (write-at t) write.Post Inv-loop μ-loop
-  returns-3 c =
-      let p = c .before .before .before .before in
-      let a = begun (p .before .before) .args in
+  returns-2 : lts.Need-returns-2 (claims t) (write-at t) write.Post Inv-loop μ-loop
+  returns-2 c =
+      let p = c .before .before .before in
+      let a = start p .args in
       let b = c .before .loop .inv .0 in
-      underway-done (b .passed) (omega (arith, claims-length (now (a .words)) (demands p), c .loop-test .left)) (a .at) _ (now (a .tree)) refl refl (b .plan .least)
+      let w = worded p .word .result in
+      let is : nodeOf w ≡ b .root = ap nodeOf (sym (getD-set-same (now (a .tree)) (a .at) w 0 (room (led p)))) ∙ b .rooted in
+      underway-done (b .passed) (omega (arith, claims-length (now (a .words)) (demands p), c .loop-test .left)) (a .at) w (now (a .tree)) refl refl
+      (subst (λ y. Least ones (scheduleFrame (now (a .prefix)) (now (a .again))) (formulaOf (now (a .words)) (a .entry)) (a .position) (y ∷ b .plan .below)) (sym is) (b .plan .least))
 
 pub +write-spec : {M : Type 1} → statement M
 +write-spec =
     close μ-write λ t. lts.spec (claims t) (write-at t) write.Post Inv-loop μ-loop
+    (entry-at-requires t)
     (lead-requires t)
+    (word-requires t)
     (mul-tree t)
     (slice-write-tree t)
     (add-result t)
     (same-length t)
     (returns t)
-    (claimed-requires t)
-    (node-requires t)
-    (enum-known-plan t)
-    (enum-told t)
-    (same-length-2 t)
-    (returns-2 t)
+    (proven-requires t)
+    (demands-of-requires t)
     (add-parts t)
     (add-next t)
     (loop-holds t)
@@ -244,5 +266,5 @@ pub +write-spec : {M : Type 1} → statement M
     (add-m t)
     (loop-less t)
     (loop-again t)
-    (same-length-3 t)
-    (returns-3 t)
+    (same-length-2 t)
+    (returns-2 t)

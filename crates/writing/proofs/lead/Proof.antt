@@ -3,7 +3,9 @@
 use native.Mathlib.Omega.{arith}
 use borrow.Author.Needs.{needs}
 use denote.Ref.{now}
-use Rattle.writing.proofs.Leading.{Finds, Led, led, read-finds, led-fits, led-leads, writable-inside}
+use Rattle.trees.specs.Least.{ones}
+use Rattle.theory.proofs.Horizon.{ones-atoms}
+use Rattle.writing.proofs.Leading.{Finds, Led, led, read-finds, led-root, writable-inside}
 use Rattle.writing.proofs.lead.Statement.{statement}
 use Rattle.writing.proofs.lead.Tie as tie
 
@@ -11,42 +13,36 @@ mul-cell : tie.Need-mul-cell
 mul-cell c = search needs
 
 add-cell : tie.Need-add-cell
-add-cell c = let a = writable-inside (c .before .before .before .before .pre) in search needs
+add-cell c = let a = writable-inside (c .before .before .before .before .pre .0) in search needs
 
 mul-cell-2 : tie.Need-mul-cell-2
-mul-cell-2 c = let a = writable-inside (c .before .before .before .before .pre) in search needs
+mul-cell-2 c = let a = writable-inside (c .before .before .before .before .pre .0) in search needs
 
 shared-slice-read-cell : tie.Need-shared-slice-read-cell
-shared-slice-read-cell c = let a = writable-inside (c .before .before .before .before .before .pre) in search needs
+shared-slice-read-cell c = let a = writable-inside (c .before .before .before .before .before .pre .0) in search needs
 
 holds-requires : tie.Need-holds-requires
 holds-requires c κs = search needs
-
-entry-at-requires : tie.Need-entry-at-requires
-entry-at-requires c κs = search needs
 
 part-requires : tie.Need-part-requires
 part-requires c κs = search needs
 
 module _ (c : tie.After-part) where
   abbrev begun : tie.Start
-  begun = c .before .before .before .before .before .before .before .before
+  begun = c .before .before .before .before .before .before .before
 
   -- what is looked for
-  abbrev asked : Led (now (begun .args .prefix)) (now (begun .args .again)) (now (begun .args .words)) (begun .args .entry) (begun .args .position) (now (begun .args .work))
-  asked = led _ _ _ _ _ _ (begun .pre)
+  abbrev asked : Led ones (now (begun .args .prefix)) (now (begun .args .again)) (now (begun .args .words)) (begun .args .entry) (begun .args .position) (now (begun .args .work))
+  asked = led ones-atoms _ _ _ _ _ _ (begun .pre .0)
 
-  abbrev read : Finds (now (begun .args .work)) (c .before .entry-at .result) (begun .args .position) (c .before .before .holds .result) (c .part .result) (asked .root)
-  read = read-finds asked (c .before .entry-at .ensures) (c .before .before .holds .ensures) (c .part .ensures .0)
+  abbrev read : Finds (now (begun .args .work)) (begun .args .here) (begun .args .position) (c .before .holds .result) (c .part .result) (asked .root)
+  read = read-finds asked (begun .pre .1) (c .before .holds .ensures) (c .part .ensures .0)
 
 root-of-requires : tie.Need-root-of-requires
-root-of-requires c κs = let a = writable-inside (begun c .pre) in (a .room, omega (arith, a .column), read c .readable)
-
-word-requires : tie.Need-word-requires
-word-requires c κs = led-fits (asked (c .before)) (read (c .before) .found _ (c .root-of .ensures))
+root-of-requires c κs = let a = writable-inside (begun c .pre .0) in (a .room, omega (arith, a .column), read c .readable)
 
 returns : tie.Need-returns
-returns c = led-leads (asked (c .before .before)) (read (c .before .before) .found _ (c .before .root-of .ensures)) (c .word .ensures)
+returns c = led-root (asked (c .before)) (read (c .before) .found _ (c .root-of .ensures))
 
 pub lead-spec : {M : Type 1} → statement M
 lead-spec =
@@ -57,8 +53,6 @@ lead-spec =
     mul-cell-2
     shared-slice-read-cell
     holds-requires
-    entry-at-requires
     part-requires
     root-of-requires
-    word-requires
     returns)

@@ -1,20 +1,20 @@
--- `writing::scan` meets its contract. The loop's invariant: no nearer witness meets the size, and one that does is not passed.
+-- `writing::scan` meets its contract. The loop's invariant: no nearer witness meets the price, and one that does is not passed.
 -- Assumes nothing.
 use Prim.Native.Nat.{_-_}
 use native.Mathlib.Omega.{arith}
 use borrow.Author.Needs.{needs}
 use denote.Ref.{now}
 use Rattle.search.specs.Rows.{rowOf}
-use Rattle.writing.specs.Scans.{sizesFrom}
-use Rattle.writing.proofs.Scanning.{Scanning, size-at, scan-none, scan-near, scan-back, scan-column, scan-small, scan-listed, scan-with, scan-alone, scan-turn}
+use Rattle.writing.specs.Scans.{pricesFrom}
+use Rattle.writing.proofs.Scanning.{Scanning, price-at, scan-none, scan-near, scan-back, scan-column, scan-small, scan-listed, scan-with, scan-alone, scan-turn}
 use Rattle.writing.proofs.scan.Statement.{statement}
 use Rattle.writing.proofs.scan.Tie as tie
 
 abbrev Inv-loop : tie.InvT-loop
-Inv-loop work witness member position held ahead size sum₀ n₀ sum n = Scanning (sizesFrom (rowOf work witness) held ahead position) (sizesFrom (rowOf work member) held ahead position) held ahead position size n sum
+Inv-loop work witness member position held ahead price sum₀ n₀ sum n = Scanning (pricesFrom (rowOf work witness) held ahead position) (pricesFrom (rowOf work member) held ahead position) held ahead position price n sum
 
 abbrev μ-loop : tie.MeasureT-loop
-μ-loop work witness member position held ahead size sum₀ n₀ sum n = 1024 - n
+μ-loop work witness member position held ahead price sum₀ n₀ sum n = 1024 - n
 
 loop-holds : tie.Need-loop-holds Inv-loop μ-loop
 loop-holds c = scan-none (c .before .pre .3)
@@ -69,9 +69,9 @@ returns c =
     let l = place .before .loop in
     let a = place .before .before .before .args in
     scan-with (l .inv)
-    (size-at (now (a .work)) (a .member) (a .held) (a .ahead) (a .position) (l .n) (place .step-from .ensures) (list .before .part .ensures .0))
+    (price-at (now (a .work)) (a .member) (a .held) (a .ahead) (a .position) (l .n) (place .step-from .ensures) (list .before .part .ensures .0))
     (list .listed .ensures)
-    (size-at (now (a .work)) (a .witness) (a .held) (a .ahead) (a .position) (l .n) (place .step-from .ensures) (turn .part2 .ensures .0))
+    (price-at (now (a .work)) (a .witness) (a .held) (a .ahead) (a .position) (l .n) (place .step-from .ensures) (turn .part2 .ensures .0))
     (c .before .if1 .taken)
     (c .members .ensures)
 
@@ -85,7 +85,7 @@ returns-2 c =
     let l = place .before .loop in
     let a = place .before .before .before .args in
     scan-alone (l .inv)
-    (size-at (now (a .work)) (a .member) (a .held) (a .ahead) (a .position) (l .n) (place .step-from .ensures) (list .before .part .ensures .0))
+    (price-at (now (a .work)) (a .member) (a .held) (a .ahead) (a .position) (l .n) (place .step-from .ensures) (list .before .part .ensures .0))
     (list .listed .ensures)
     (c .before .if2 .taken)
     (c .members2 .ensures)
@@ -107,9 +107,9 @@ loop-again c =
     let l = place .before .loop in
     let a = place .before .before .before .args in
     scan-turn (l .inv)
-    (size-at (now (a .work)) (a .member) (a .held) (a .ahead) (a .position) (l .n) (place .step-from .ensures) (list .before .part .ensures .0))
+    (price-at (now (a .work)) (a .member) (a .held) (a .ahead) (a .position) (l .n) (place .step-from .ensures) (list .before .part .ensures .0))
     (list .listed .ensures)
-    (size-at (now (a .work)) (a .witness) (a .held) (a .ahead) (a .position) (l .n) (place .step-from .ensures) (turn .part2 .ensures .0))
+    (price-at (now (a .work)) (a .witness) (a .held) (a .ahead) (a .position) (l .n) (place .step-from .ensures) (turn .part2 .ensures .0))
     (list .before .part .ensures .1)
     (c .before .if1 .left)
     (c .if2 .left)

@@ -1,0 +1,18 @@
+-- `chickvessel::reach` meets its contract.
+-- Assumes nothing.
+use native.Mathlib.Omega.{arith}
+use borrow.Author.Needs.{needs}
+use Rattle.chickvessel.proofs.reach.Statement.{statement}
+use Rattle.chickvessel.proofs.reach.Tie as tie
+
+returns : tie.Need-returns
+returns c = omega (arith, c .if1 .taken)
+
+add-result : tie.Need-add-result
+add-result c = search needs
+
+returns-2 : tie.Need-returns-2
+returns-2 c = omega (arith, c .if1 .left)
+
+pub reach-spec : {M : Type 1} → statement M
+reach-spec = tie.close (tie.spec returns add-result returns-2)

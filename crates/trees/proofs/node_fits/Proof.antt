@@ -1,0 +1,110 @@
+-- `trees::node_fits` meets its contract: the word's case says which test it is, and that test is right.
+-- Assumes nothing.
+use mathlib.Core.Path.{sym, ap, _∙_}
+use native.Mathlib.Omega.{arith}
+use borrow.Author.Needs.{needs}
+use denote.Ref.{now}
+use Rattle.trees.specs.Plans.{rightOf}
+use Rattle.trees.proofs.Words.{word-says}
+use Rattle.trees.proofs.Parts.{right-at-most}
+use Rattle.trees.proofs.JudgedNodes.{node-malformed, node-atom, node-plain, node-counted}
+use Rattle.trees.proofs.node_fits.Statement.{statement}
+use Rattle.trees.proofs.node_fits.Tie as tie
+
+abbrev begun : tie.After-decode → tie.Start
+begun d = d .before .before .before .before
+
+decode-requires : tie.Need-decode-requires
+decode-requires c κs = search needs
+
+enum-known-rule : tie.Need-enum-known-rule
+enum-known-rule c = search needs
+
+letter-requires : tie.Need-letter-requires
+letter-requires c κs = search needs
+
+atom-fits-requires : tie.Need-atom-fits-requires
+atom-fits-requires c κs =
+    let rule = c .before .before in
+    let says = word-says _ _ (sym (rule .before .before .decode .ensures) ∙ rule .rule .given .1) in
+    (says .3, says .4)
+
+enum-known-rule-2 : tie.Need-enum-known-rule-2
+enum-known-rule-2 c = search needs
+
+suits-requires : tie.Need-suits-requires
+suits-requires c κs =
+    let rule = c .before in
+    let says = word-says _ _ (sym (rule .before .before .decode .ensures) ∙ rule .rule2 .given .1) in
+    (omega (arith, says .3), omega (arith, says .4))
+
+enum-known-rule-3 : tie.Need-enum-known-rule-3
+enum-known-rule-3 c = search needs
+
+list-fits-requires : tie.Need-list-fits-requires
+list-fits-requires c κs =
+    let rule = c .before in
+    let decoded = rule .before .before in
+    let start = begun decoded in
+    let says = word-says _ _ (sym (decoded .decode .ensures) ∙ rule .rule3 .given .1) in
+    record {
+      prefix = start .pre .0 .prefix;
+      loop = start .pre .0 .loop;
+      part = omega (arith, ap rightOf (start .pre .1), right-at-most (now (start .args .table)) (start .args .e), start .pre .0 .entry);
+      position = omega (arith, start .pre .0 .reach);
+      low = says .3;
+      high = says .4;
+      number = omega (arith, says .2);
+    }
+
+enum-told : tie.Need-enum-told
+enum-told c = search needs
+
+returns : tie.Need-returns
+returns c =
+    let rule = c .before .before .before in
+    let decoded = rule .before .before in
+    let a = begun decoded .args in
+    node-atom (now (a .prefix)) (now (a .again)) (now (a .table)) (a .e) (a .position) (a .needed) (a .word) _ _ _ _ _ _
+    (sym (decoded .decode .ensures) ∙ rule .rule .given .1) (c .before .letter .ensures) (begun decoded .pre .1) (c .atom-fits .ensures)
+
+returns-2 : tie.Need-returns-2
+returns-2 c =
+    let rule = c .before .before in
+    let decoded = rule .before .before in
+    let a = begun decoded .args in
+    node-plain (now (a .prefix)) (now (a .again)) (now (a .table)) (a .e) (a .position) (a .needed) (a .word) _ _ _
+    (sym (decoded .decode .ensures) ∙ rule .rule2 .given .1) (begun decoded .pre .1) (c .suits .ensures)
+
+returns-3 : tie.Need-returns-3
+returns-3 c =
+    let rule = c .before .before in
+    let decoded = rule .before .before in
+    let a = begun decoded .args in
+    node-counted (now (a .prefix)) (now (a .again)) (now (a .table)) (a .e) (a .position) (a .needed) (a .word) _ _ _ _
+    (sym (decoded .decode .ensures) ∙ rule .rule3 .given .1) (begun decoded .pre .1) (c .list-fits .ensures)
+
+returns-4 : tie.Need-returns-4
+returns-4 c =
+    let decoded = c .before .before in
+    let a = begun decoded .args in
+    node-malformed (now (a .prefix)) (now (a .again)) (now (a .table)) (a .e) (a .position) (a .needed) (a .word)
+    (sym (decoded .decode .ensures) ∙ c .enum-told .given .1)
+
+pub node-fits-spec : {M : Type 1} → statement M
+node-fits-spec =
+    tie.close
+    (tie.spec
+    decode-requires
+    enum-known-rule
+    letter-requires
+    atom-fits-requires
+    enum-known-rule-2
+    suits-requires
+    enum-known-rule-3
+    list-fits-requires
+    enum-told
+    returns
+    returns-2
+    returns-3
+    returns-4)
