@@ -1,32 +1,22 @@
 -- Two questions of which the one is refused just as the other: what is answered to the one is then answered to the other.
 -- Assumes nothing.
-use mathlib.Core.Path.{_≡_, refl, sym, ap, subst, _∙_}
+use mathlib.Core.Path.{_≡_, sym, _∙_}
 use mathlib.Core.Bool.{false, _&&_, true≢false}
-use mathlib.Core.Logic.{by-cases, _⊎_, inl, inr}
-use mathlib.Core.List.{List, [], _++_}
-use Prim.Native.Nat.{ℕ, _+_, _-_, _<_, _≤_}
-use native.Mathlib.Decide.{decLe}
-use native.Mathlib.Omega.{arith}
+use mathlib.Core.Logic.{_⊎_, inl, inr}
+use mathlib.Core.List.{List, _++_}
+use Prim.Native.Nat.{ℕ, _+_, _<_}
 use borrow.Author.Tests.{lt-leb}
 use lib.Dec.{leb, ltb}
-use lib.ListN.{length, take, replicate, length-append}
-use lib.Seq.{take-append-seam, length-take-le}
+use lib.ListN.{length}
 use Rattle.schedule.specs.Limits.{maxLetters, maxEntries}
 use Rattle.schedule.specs.Figures.{Figures}
 use Rattle.schedule.specs.Tests.{Test, AllPass, also, FirstFails, here, later}
 use Rattle.schedule.specs.Lengths.{lengthTests}
 use Rattle.schedule.proofs.Tests.{fails-front, fails-behind, fails-where, passes-front, passes-behind}
-use Rattle.rules.specs.Tables.{tableOf, noTable, readInto}
-use Rattle.rules.specs.declared.Table.{Table}
-use Rattle.rules.proofs.Tested.{read-many, read-few}
 use Rattle.chickvessel.specs.Questions.{Question, question, tableTests, questionTests}
-use Rattle.chickvessel.specs.Checked.{checkTests, Checked, refused, judged}
 use Rattle.chickvessel.specs.Worked.{lengthTest, workTests, Worked}
 use Rattle.chickvessel.specs.Worked
 use Rattle.chickvessel.specs.Wrote.{Wrote}
-use Rattle.chickvessel.specs.Looked.{Looked, refuses, sees}
-use Rattle.chickvessel.specs.declared.Look.{Look}
-use Rattle.chickvessel.proofs.Accepting.{count-many}
 
 -- The first is refused, and whatever refuses it refuses the second.
 pub record Alike (q p : Question) : Type 0 where
@@ -49,16 +39,6 @@ module _ (q p : Question) (alike : Alike q p) where
 
   pub alike-wrote : {found left tree treeLeft : List ℕ} {r : Figures} → Wrote q found left tree treeLeft r → Wrote p found left tree treeLeft r
   alike-wrote w = record { answer = alike-worked (w .answer); kept = w .kept }
-
-  pub alike-checked : {words : List ℕ} {r : Figures} → Checked q words r → Checked p words r
-  unfolding checkTests
-  alike-checked (refused f) = refused (first-behind _ f)
-  alike-checked (judged ps j) = absurd (alike .never (passes-front _ (questionTests q) ps))
-
-  pub alike-looked : {found left : List ℕ} {look : Look} → Looked q found left look → Looked p found left look
-  unfolding workTests
-  alike-looked {found} (refuses f l) = refuses (first-behind (lengthTest (length found)) f) l
-  alike-looked {found} (sees ps l c) = absurd (alike .never (passes-front (lengthTest (length found)) (questionTests q) ps))
 
 -- Two tables that both have no entry or too many.
 pub tables-alike : (prefix loop table list : List ℕ) (e i : ℕ)
@@ -98,31 +78,3 @@ letters-alike prefix loop table q e i same many more = record { first = by; neve
 
     passes-not : AllPass (lengthTests (length prefix) (length loop) ++ tableTests table e i) → ⊥
     passes-not (also p (also o ps)) = true≢false (sym o ∙ over)
-
--- The record that a list is read into has the list's words, or the list is refused as one of no word is.
-module _ (list : List ℕ) (t : Table) (read : t ≡ readInto list) where
-  few-words : length list ≤ maxEntries → t ≡ tableOf list
-  few-words le = read ∙ sym (read-few list le)
-
-  many-words : maxEntries < length list → t ≡ noTable
-  many-words lt = read ∙ sym (read-many list lt)
-
-  pub table-fits : t .len ≤ length (t .words)
-  table-fits = by-cases (decLe (length list) maxEntries)
-      (λ le. subst (λ x. x .len ≤ length (x .words)) (sym (few-words le))
-      (omega (arith, length-append list (replicate (maxEntries - length list) 0))))
-      (λ gt. subst (λ x. x .len ≤ length (x .words)) (sym (many-words (omega (arith, gt)))) (omega arith))
-
-  pub table-length : t .len ≡ length (take (t .len) (t .words))
-  table-length = sym (length-take-le (t .len) (t .words) table-fits)
-
-  -- what is said of the question with the record's words is said of the question with the list
-  pub read-said : (Said : Question → Type 0) → ((q p : Question) → Alike q p → Said q → Said p)
-      → (prefix loop : List ℕ) (e i : ℕ) → Said (question prefix loop (take (t .len) (t .words)) e i) → Said (question prefix loop list e i)
-  read-said Said alike prefix loop e i said = by-cases (decLe (length list) maxEntries)
-      (λ le. subst (λ l. Said (question prefix loop l e i))
-      (ap (λ x. take (x .len) (x .words)) (few-words le) ∙ take-append-seam list (replicate (maxEntries - length list) 0)) said)
-      (λ gt. let many : maxEntries < length list = omega (arith, gt) in
-      alike (question prefix loop [] e i) (question prefix loop list e i)
-      (tables-alike prefix loop [] list e i refl (count-many (length list) many))
-      (subst (λ x. Said (question prefix loop (take (x .len) (x .words)) e i)) (many-words many) said))

@@ -3,6 +3,7 @@ pub mod Limits
 pub mod Numbers
 pub mod Working
 pub mod Alike
+mod Reading
 pub mod Judging
 pub mod Looking
 pub mod WritingOut

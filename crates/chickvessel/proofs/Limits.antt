@@ -48,6 +48,9 @@ module _ (q : Question) (passed : AllPass (questionTests q)) where
   pub question-loop : 0 < length (q .loop)
   question-loop = question-passes .loop
 
+  pub question-few : length (q .table) ≤ maxEntries
+  question-few = question-passes .few
+
   pub question-within : Within (length (q .prefix)) (length (q .loop)) (q .entry) (q .position)
   question-within =
       let p = question-passes in

@@ -17,6 +17,7 @@ ghost use Rattle.chickvessel.specs.Worked.{lengthTest, workTests};
 ghost use Rattle.chickvessel.specs.Told.{Told};
 ghost use Rattle.chickvessel.specs.Found.{Found};
 ghost use Rattle.chickvessel.specs.Wrote.{Wrote};
+ghost use Rattle.chickvessel.specs.declared.Look.the-variants.{Cell};
 ghost use Rattle.chickvessel.specs.Looked.{Gates, verdictIn, toldBy, foundBy, FilledIn, CellIn, Reads, Looked, WritesOut};
 
 // The largest position that can be asked, and the most words of a tree.
@@ -65,22 +66,22 @@ pub enum Gate {
 }
 
 // Refusals 3 to 7 in order, of a table and what is asked of it.
-fn accept_table(words: &[u32], entry: usize, position: usize) -> Gate
-    ensures { λ r. ⌜ Gates (tableTests (now (words .entry)) entry position) r ⌝ }
+fn accept_table(list: &[u32], entry: usize, position: usize) -> Gate
+    ensures { λ r. ⌜ Gates (tableTests (now (list .entry)) entry position) r ⌝ }
 {
-    if words.len() == 0 {
+    if list.len() == 0 {
         return Gate::Shut(Refusal::NoTable);
     }
-    if Schedule::MAX_ENTRIES < words.len() {
+    if Schedule::MAX_ENTRIES < list.len() {
         return Gate::Shut(Refusal::NoTable);
     }
-    if !rules::all_keep(words) {
+    if !rules::all_keep(list) {
         return Gate::Shut(Refusal::BadEntry);
     }
-    if !rules::all_low(words) {
+    if !rules::all_low(list) {
         return Gate::Shut(Refusal::TooHigh);
     }
-    if words.len() <= entry {
+    if list.len() <= entry {
         return Gate::Shut(Refusal::NoEntry);
     }
     if MAX_POSITION < position {
@@ -90,13 +91,13 @@ fn accept_table(words: &[u32], entry: usize, position: usize) -> Gate
 }
 
 // Refusals 1 to 7 in order: 1 and 2 by the constructor of the lengths.
-fn accept(prefix: &[u32], again: &[u32], words: &[u32], entry: usize, position: usize) -> Gate
-    ensures { λ r. ⌜ Gates (questionTests (question (now (prefix .entry)) (now (again .entry)) (now (words .entry)) entry position)) r ⌝ }
+fn accept(prefix: &[u32], again: &[u32], list: &[u32], entry: usize, position: usize) -> Gate
+    ensures { λ r. ⌜ Gates (questionTests (question (now (prefix .entry)) (now (again .entry)) (now (list .entry)) entry position)) r ⌝ }
 {
     match Schedule::new(prefix.len(), again.len()) {
         Made::EmptyLoop => Gate::Shut(Refusal::EmptyLoop),
         Made::TooLong => Gate::Shut(Refusal::TooLong),
-        Made::Ready(_) => accept_table(words, entry, position),
+        Made::Ready(_) => accept_table(list, entry, position),
     }
 }
 
@@ -114,14 +115,14 @@ fn accept_length(work: usize) -> Gate
 fn accept_work(
     prefix: &[u32],
     again: &[u32],
-    words: &[u32],
+    list: &[u32],
     entry: usize,
     position: usize,
     work: usize,
 ) -> Gate
-    ensures { λ r. ⌜ Gates (workTests (question (now (prefix .entry)) (now (again .entry)) (now (words .entry)) entry position) work) r ⌝ }
+    ensures { λ r. ⌜ Gates (workTests (question (now (prefix .entry)) (now (again .entry)) (now (list .entry)) entry position) work) r ⌝ }
 {
-    match accept(prefix, again, words, entry, position) {
+    match accept(prefix, again, list, entry, position) {
         Gate::Shut(refusal) => Gate::Shut(refusal),
         Gate::Passed => accept_length(work),
     }
@@ -157,23 +158,6 @@ fn judge<'a>(
     }
 }
 
-// Check, of the words of a table that is read.
-fn check_words<'a>(
-    prefix: &'a [u32],
-    again: &'a [u32],
-    words: &[u32],
-    entry: usize,
-    position: usize,
-    tree: &[u32],
-) -> Outcome
-    ensures { λ r. ⌜ Checked (question (now (prefix .entry)) (now (again .entry)) (now (words .entry)) entry position) (now (tree .entry)) (figuresOf r) ⌝ }
-{
-    match accept(prefix, again, words, entry, position) {
-        Gate::Shut(refusal) => Outcome::Refused(refusal),
-        Gate::Passed => judge(prefix, again, words, entry, position, tree),
-    }
-}
-
 // Whether the words are a valid tree for an entry of a table at a position of a schedule.
 pub fn check<'a>(
     prefix: &'a [u32],
@@ -185,10 +169,15 @@ pub fn check<'a>(
 ) -> Outcome
     ensures { λ r. ⌜ Checked (question (now (prefix .entry)) (now (again .entry)) (now (list .entry)) entry position) (now (tree .entry)) (figuresOf r) ⌝ }
 {
-    let table = rules::read(list);
-    let words = table.words;
-    let len = table.len;
-    check_words(prefix, again, &words[..len], entry, position, tree)
+    match accept(prefix, again, list, entry, position) {
+        Gate::Shut(refusal) => Outcome::Refused(refusal),
+        Gate::Passed => {
+            let table = rules::read(list);
+            let words = table.words;
+            let len = table.len;
+            judge(prefix, again, &words[..len], entry, position, tree)
+        }
+    }
 }
 
 // How far a question needs the columns: past the prefix and past the position.
@@ -225,7 +214,7 @@ pub enum Look {
     Cell(u16),
 }
 
-// One filling for one question, and the slice cleared again.
+// The cell of a question that passed its tests: one filling, and the slice cleared again.
 fn look_words<'a>(
     prefix: &'a [u32],
     again: &'a [u32],
@@ -233,16 +222,13 @@ fn look_words<'a>(
     entry: usize,
     position: usize,
     work: &mut [u16],
-) -> Look
-    ensures { λ r. ⌜ Looked (question (now (prefix .entry)) (now (again .entry)) (now (words .entry)) entry position) (now (work .entry)) (now (work .exit)) r ⌝ }
+) -> u16
+    requires { ⌜ AllPass (workTests (question (now prefix) (now again) (now words) entry position) (length (now work))) ⌝ }
+    ensures { λ r. ⌜ Looked (question (now (prefix .entry)) (now (again .entry)) (now (words .entry)) entry position) (now (work .entry)) (now (work .exit)) (Cell r) ⌝ }
 {
-    let gate = accept_work(prefix, again, words, entry, position, work.len());
-    if let Gate::Shut(refusal) = gate {
-        return Look::Refused(refusal);
-    }
     let cell = filled(prefix, again, words, work, entry, position);
     search::clear(work);
-    Look::Cell(cell)
+    cell
 }
 
 fn look_up<'a>(
@@ -255,10 +241,15 @@ fn look_up<'a>(
 ) -> Look
     ensures { λ r. ⌜ Looked (question (now (prefix .entry)) (now (again .entry)) (now (list .entry)) entry position) (now (work .entry)) (now (work .exit)) r ⌝ }
 {
+    let gate = accept_work(prefix, again, list, entry, position, work.len());
+    if let Gate::Shut(refusal) = gate {
+        return Look::Refused(refusal);
+    }
     let table = rules::read(list);
     let words = table.words;
     let len = table.len;
-    look_words(prefix, again, &words[..len], entry, position, work)
+    let cell = look_words(prefix, again, &words[..len], entry, position, work);
+    Look::Cell(cell)
 }
 
 fn verdict_in(cell: u16) -> Verdict
@@ -358,7 +349,7 @@ fn write_out<'a>(
     Outcome::Judged(verdict_in(cell), size)
 }
 
-// Write, of the words of a table that is read.
+// The least tree of a question that passed its tests, written out, and the slice cleared again.
 fn write_words<'a>(
     prefix: &'a [u32],
     again: &'a [u32],
@@ -368,13 +359,10 @@ fn write_words<'a>(
     work: &mut [u16],
     tree: &mut [u32],
 ) -> Outcome
+    requires { ⌜ AllPass (workTests (question (now prefix) (now again) (now words) entry position) (length (now work))) ⌝ }
     ensures { λ r. ⌜ Wrote (question (now (prefix .entry)) (now (again .entry)) (now (words .entry)) entry position) (now (work .entry)) (now (work .exit))
         (now (tree .entry)) (now (tree .exit)) (figuresOf r) ⌝ }
 {
-    let gate = accept_work(prefix, again, words, entry, position, work.len());
-    if let Gate::Shut(refusal) = gate {
-        return Outcome::Refused(refusal);
-    }
     let cell = filled(prefix, again, words, work, entry, position);
     let outcome = write_out(prefix, again, words, work, tree, entry, position, cell);
     search::clear(work);
@@ -394,6 +382,10 @@ pub fn write<'a>(
     ensures { λ r. ⌜ Wrote (question (now (prefix .entry)) (now (again .entry)) (now (list .entry)) entry position) (now (work .entry)) (now (work .exit))
         (now (tree .entry)) (now (tree .exit)) (figuresOf r) ⌝ }
 {
+    let gate = accept_work(prefix, again, list, entry, position, work.len());
+    if let Gate::Shut(refusal) = gate {
+        return Outcome::Refused(refusal);
+    }
     let table = rules::read(list);
     let words = table.words;
     let len = table.len;

@@ -7,7 +7,7 @@ use Prim.Native.Nat.{ℕ}
 use Rattle.schedule.proofs.Determined.{equal-one}
 use Rattle.rules.specs.Formula.{height}
 use Rattle.rules.specs.Entries.{entryOf}
-use Rattle.rules.specs.Tables.{entryAt, formulaOf, keepsAll, readInto}
+use Rattle.rules.specs.Tables.{entryAt, formulaOf, keepsAll, tableOf}
 use Rattle.rules.specs.Low.{lowAll}
 use Rattle.rules.specs.declared.Side.{Side}
 use Rattle.rules.specs.declared.Entry.{Entry}
@@ -19,7 +19,7 @@ decode-one i w a b p q = equal-one p q
 pub height-one : (s : Side) (table : List ℕ) (e a b : ℕ) → a ≡ height s (formulaOf table e) → b ≡ height s (formulaOf table e) → a ≡ b
 height-one s table e a b p q = equal-one p q
 
-pub read-one : (list : List ℕ) (r s : Table) → r ≡ readInto list → s ≡ readInto list → r ≡ s
+pub read-one : (list : List ℕ) (r s : Table) → r ≡ tableOf list → s ≡ tableOf list → r ≡ s
 read-one list r s p q = equal-one p q
 
 pub keeps-one : (table : List ℕ) (r s : Bool) → r ≡ keepsAll table → s ≡ keepsAll table → r ≡ s

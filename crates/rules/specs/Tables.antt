@@ -1,8 +1,7 @@
 -- Tables of entries: the formula of an entry, and the record that a list of words is read into.
 use Prim.Native.Nat.{ℕ, zero, suc, _-_}
-use mathlib.Core.Bool.{Bool, true, cond, _&&_}
+use mathlib.Core.Bool.{Bool, true, _&&_}
 use mathlib.Core.List.{List, _++_}
-use lib.Dec.{leb}
 use lib.ListN.{length, getD, replicate}
 use Rattle.schedule.specs.Limits.{maxEntries}
 use Rattle.rules.specs.Formula.{Formula, atom, notᶠ, orᶠ, andᶠ, since, until}
@@ -59,10 +58,3 @@ keepsAll table = allBelow (length table) (keptAt table)
 -- The record of a list of at most 32 words: the words and their count, the places past them 0.
 abbrev pub tableOf : List ℕ → Table
 tableOf list = record { words = list ++ replicate (maxEntries - length list) 0; len = length list }
-
-abbrev pub noTable : Table
-noTable = record { words = replicate maxEntries 0; len = 0 }
-
--- What a list is read into: its record, or one of no entry where the list has more words than a record has places.
-unfoldable pub readInto : List ℕ → Table
-readInto list = cond (leb (length list) maxEntries) (tableOf list) noTable

@@ -6,7 +6,7 @@ ghost use lib.ListN.{length};
 ghost use Rattle.schedule.specs.Limits.{maxEntries};
 ghost use Rattle.rules.specs.Formula.{height, sinceAdds, untilAdds};
 ghost use Rattle.rules.specs.Entries.{entryOf, isAlone, areEarlier, binaryOf, pairOf, kept};
-ghost use Rattle.rules.specs.Tables.{entryAt, formulaOf, keepsAll, tableOf, noTable, readInto};
+ghost use Rattle.rules.specs.Tables.{entryAt, formulaOf, keepsAll, tableOf};
 ghost use Rattle.rules.specs.Low.{lowAt, lowAll};
 ghost use Rattle.rules.specs.Heights.{addsOf, partsOf};
 
@@ -208,7 +208,8 @@ pub fn all_keep(list: &[u32]) -> bool
     true
 }
 
-fn filled(list: &[u32]) -> Table
+// A list of words read into the record. Whoever reads has tested that they have a place in it.
+pub fn read(list: &[u32]) -> Table
     requires { ⌜ length (now list) ≤ maxEntries ⌝ }
     ensures { λ r. ⌜ r ≡ tableOf (now (list .entry)) ⌝ }
 {
@@ -222,26 +223,6 @@ fn filled(list: &[u32]) -> Table
         words,
         len: list.len(),
     }
-}
-
-// The record of no entry.
-fn no_table() -> Table
-    ensures { λ r. ⌜ r ≡ noTable ⌝ }
-{
-    Table {
-        words: [0u32; Schedule::MAX_ENTRIES],
-        len: 0,
-    }
-}
-
-// A list of words read into the record. One that has no place in it reads as one of no word: both are refused alike.
-pub fn read(list: &[u32]) -> Table
-    ensures { λ r. ⌜ r ≡ readInto (now (list .entry)) ⌝ }
-{
-    if Schedule::MAX_ENTRIES < list.len() {
-        return no_table();
-    }
-    filled(list)
 }
 
 // Whether the two heights of an entry add up to no more than the limit.

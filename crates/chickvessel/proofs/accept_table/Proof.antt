@@ -27,7 +27,7 @@ returns-2 c = shuts (here (count-many _ (c .if2 .taken)))
 -- past the tests of the count
 module _ (c : tie.Else2) where
   abbrev table : List ℕ
-  table = now (c .before .before .before .args .words)
+  table = now (c .before .before .before .args .list)
 
   counted : (ltb 0 (length table) && leb (length table) maxEntries) ≡ true
   counted = count-passes (length table) (c .before .if1 .left) (c .if2 .left)

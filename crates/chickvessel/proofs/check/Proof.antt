@@ -1,32 +1,75 @@
--- `chickvessel::check` meets its contract: what is said of the record's words is said of the list.
+-- `chickvessel::check` meets its contract: the question's refusal, or what the words are judged to be.
 -- Assumes nothing.
+use mathlib.Core.List.{List}
+use Prim.Native.Nat.{ℕ}
 use borrow.Author.Needs.{needs}
 use denote.Ref.{now}
-use Rattle.chickvessel.specs.Answers.{figuresOf}
-use Rattle.chickvessel.specs.Checked.{Checked}
-use Rattle.chickvessel.proofs.Alike.{table-fits, table-length, read-said, alike-checked}
+use Rattle.schedule.specs.Tests.{AllPass}
+use Rattle.schedule.proofs.Tests.{fails-front}
+use Rattle.chickvessel.specs.Questions.{Question, question, questionTests}
+use Rattle.chickvessel.specs.Checked.{checkTests, refused}
+use Rattle.chickvessel.proofs.Accepting.{gates-first, gates-passed}
+use Rattle.chickvessel.proofs.Limits.{question-few}
+use Rattle.chickvessel.proofs.Reading.{table-fits, table-length, read-passes, read-checked}
 use Rattle.chickvessel.proofs.check.Statement.{statement}
 use Rattle.chickvessel.proofs.check.Tie as tie
 
-read-requires : tie.Need-read-requires
-read-requires c κs = search needs
+accept-requires : tie.Need-accept-requires
+accept-requires c κs = search needs
 
-array-share-prefix-words : tie.Need-array-share-prefix-words
-array-share-prefix-words c = table-fits _ _ (c .before .read .ensures)
+enum-known-refusal : tie.Need-enum-known-refusal
+enum-known-refusal c = search needs
 
-slice-aggregate-check-words : tie.Need-slice-aggregate-check-words
-slice-aggregate-check-words c = table-length _ _ (c .before .before .read .ensures)
-
-check-words-requires : tie.Need-check-words-requires
-check-words-requires c κs = search needs
+enum-told : tie.Need-enum-told
+enum-told c = search needs
 
 returns : tie.Need-returns
-returns c =
+unfolding checkTests
+returns c = refused (fails-front _ (gates-first (c .before .refusal .given .1) (c .before .before .before .accept .ensures)))
+
+-- past the tests
+module _ (c : tie.After-enum-told) where
+  abbrev begun : tie.Start
+  begun = c .before .before .before .before .before .before .before
+
+  abbrev table : List ℕ
+  table = now (begun .args .list)
+
+  abbrev asked : Question
+  asked = question (now (begun .args .prefix)) (now (begun .args .again)) table (begun .args .entry) (begun .args .position)
+
+  passed : AllPass (questionTests asked)
+  passed = gates-passed (c .enum-told .given .1) (c .before .before .accept .ensures)
+
+read-requires : tie.Need-read-requires
+read-requires c κs = question-few _ (passed c)
+
+array-share-prefix-words : tie.Need-array-share-prefix-words
+array-share-prefix-words c = table-fits (table (c .before .before)) _ (c .before .read .ensures)
+
+slice-aggregate-judge : tie.Need-slice-aggregate-judge
+slice-aggregate-judge c = table-length (table (c .before .before .before)) _ (c .before .before .read .ensures)
+
+judge-requires : tie.Need-judge-requires
+judge-requires c κs =
+    let read = c .before .before in
+    read-passes (table (read .before)) _ (read .read .ensures) _ _ _ _ (passed (read .before))
+
+returns-2 : tie.Need-returns-2
+returns-2 c =
     let read = c .before .before .before in
-    let tree = now (read .before .before .before .before .before .args .tree) in
-    read-said _ _ (read .read .ensures) (λ q. Checked q tree (figuresOf (c .check-words .result))) (λ q p alike. alike-checked q p alike) _ _ _ _
-    (c .check-words .ensures)
+    read-checked (table (read .before)) _ (read .read .ensures) _ _ _ _ (c .judge .ensures)
 
 pub check-spec : {M : Type 1} → statement M
 check-spec =
-    tie.close (tie.spec read-requires array-share-prefix-words slice-aggregate-check-words check-words-requires returns)
+    tie.close
+    (tie.spec
+    accept-requires
+    enum-known-refusal
+    enum-told
+    read-requires
+    array-share-prefix-words
+    slice-aggregate-judge
+    judge-requires
+    returns
+    returns-2)

@@ -1,40 +1,81 @@
--- `chickvessel::look_up` meets its contract: what is said of the record's words is said of the list.
+-- `chickvessel::look_up` meets its contract: a refusal of 1 to 8, or the cell that the record's words give.
 -- Assumes nothing.
+use mathlib.Core.Path.{refl}
+use mathlib.Core.List.{List}
+use Prim.Native.Nat.{ℕ}
 use borrow.Author.Needs.{needs}
-use Rattle.chickvessel.specs.Looked.{Looked}
-use Rattle.chickvessel.proofs.Alike.{table-fits, table-length, read-said, alike-looked}
+use lib.ListN.{length}
+use denote.Ref.{now}
+use Rattle.schedule.specs.Tests.{AllPass}
+use Rattle.chickvessel.specs.Questions.{Question, question}
+use Rattle.chickvessel.specs.Worked.{workTests}
+use Rattle.chickvessel.specs.Looked.{refuses}
+use Rattle.chickvessel.proofs.Accepting.{gates-first, gates-passed}
+use Rattle.chickvessel.proofs.Limits.{question-few, work-question}
+use Rattle.chickvessel.proofs.Reading.{table-fits, table-length, read-works, read-looked}
 use Rattle.chickvessel.proofs.look_up.Statement.{statement}
 use Rattle.chickvessel.proofs.look_up.Tie as tie
 
+accept-work-requires : tie.Need-accept-work-requires
+accept-work-requires c κs = search needs
+
+enum-known-gate : tie.Need-enum-known-gate
+enum-known-gate c = search needs
+
+returns : tie.Need-returns
+returns c = refuses (gates-first (c .before .gate .given .1) (c .before .before .before .accept-work .ensures)) refl
+
+enum-told : tie.Need-enum-told
+enum-told c = search needs
+
+-- past the tests
+module _ (c : tie.After-enum-told) where
+  abbrev begun : tie.Start
+  begun = c .before .before .before .before .before .before .before
+
+  abbrev table : List ℕ
+  table = now (begun .args .list)
+
+  abbrev asked : Question
+  asked = question (now (begun .args .prefix)) (now (begun .args .again)) table (begun .args .entry) (begun .args .position)
+
+  passed : AllPass (workTests asked (length (now (begun .args .work))))
+  passed = gates-passed (c .enum-told .given .1) (c .before .before .accept-work .ensures)
+
 read-requires : tie.Need-read-requires
-read-requires c κs = search needs
+read-requires c κs = question-few _ (work-question _ _ (passed c))
 
 array-share-prefix-words : tie.Need-array-share-prefix-words
-array-share-prefix-words c = table-fits _ _ (c .before .read .ensures)
+array-share-prefix-words c = table-fits (table (c .before .before)) _ (c .before .read .ensures)
 
 slice-aggregate-look-words : tie.Need-slice-aggregate-look-words
-slice-aggregate-look-words c = table-length _ _ (c .before .before .read .ensures)
+slice-aggregate-look-words c = table-length (table (c .before .before .before)) _ (c .before .before .read .ensures)
 
 look-words-requires : tie.Need-look-words-requires
-look-words-requires c κs = search needs
+look-words-requires c κs =
+    let read = c .before .before .before in
+    read-works (table (read .before)) _ (read .read .ensures) _ _ _ _ _ (passed (read .before))
 
 same-length : tie.Need-same-length
 same-length c = search needs
 
-returns : tie.Need-returns
-returns c =
+returns-2 : tie.Need-returns-2
+returns-2 c =
     let look = c .before .before in
     let read = look .before .before .before .before in
-    read-said _ _ (read .read .ensures) (λ q. Looked q _ _ (look .look-words .result)) (λ q p alike. alike-looked q p alike) _ _ _ _
-    (look .look-words .ensures)
+    read-looked (table (read .before)) _ (read .read .ensures) _ _ _ _ (look .look-words .ensures)
 
 pub look-up-spec : {M : Type 1} → statement M
 look-up-spec =
     tie.close
     (tie.spec
+    accept-work-requires
+    enum-known-gate
+    returns
+    enum-told
     read-requires
     array-share-prefix-words
     slice-aggregate-look-words
     look-words-requires
     same-length
-    returns)
+    returns-2)
