@@ -1,7 +1,9 @@
-// chickvessel.hpp: the calls of chickvessel.h for C++20, over spans, and a view that walks a tree for drawing. chickvessel.h says what schedules, tables,
-// trees and refusals are, and what each call leaves in the buffers that it is lent; all of that holds here unchanged.
+// chickvessel.hpp: the calls of chickvessel.h for C++20, over spans, and a view that walks a tree for
+// drawing. chickvessel.h says what schedules, tables, trees and refusals are, and what each call leaves in
+// the buffers that it is lent; all of that holds here unchanged.
 //
-// Header only. Throws nothing, allocates nothing, needs neither exceptions nor type information: everything is noexcept.
+// Header only. Throws nothing, allocates nothing, needs neither exceptions nor type
+// information: everything is noexcept.
 //
 //     const std::uint32_t prefix[] = {1}, loop[] = {4, 2};
 //     const std::uint32_t table[] = {chickvessel::atom(1), chickvessel::atom(0), chickvessel::until(1, 0)};
@@ -9,7 +11,8 @@
 //     static chickvessel::tree_room room;  // 16 KiB
 //     const chickvessel::question q{.prefix = prefix, .loop = loop, .table = table, .entry = 2};
 //     if (const chickvessel::answer a = chickvessel::write(q, work, room))
-//         for (const chickvessel::node& n : chickvessel::tree_view(q, std::span(room).first(a.size))) draw(n);
+//         for (const chickvessel::node& n : chickvessel::tree_view(q, std::span(room).first(a.size)))
+//             draw(n);
 //     else
 //         complain(a.name(), a.place);
 #ifndef CHICKVESSEL_HPP
@@ -45,18 +48,27 @@ constexpr std::uint32_t entry_word(kind what, std::uint32_t left, std::uint32_t 
     return std::uint32_t(what) << 16 | (left & 255) << 8 | (right & 255);
 }
 
-// The word of an entry; left and right are indices of earlier entries. Fields of more than 8 bits are cut: an index that large is in no table.
+// The word of an entry; left and right are indices of earlier entries. Fields of more than 8 bits are cut: an
+// index that large is in no table.
 constexpr std::uint32_t atom(std::uint32_t number) noexcept { return entry_word(kind::atom, number, 0); }
 constexpr std::uint32_t not_(std::uint32_t left) noexcept { return entry_word(kind::not_, left, 0); }
-constexpr std::uint32_t or_(std::uint32_t left, std::uint32_t right) noexcept { return entry_word(kind::or_, left, right); }
-constexpr std::uint32_t and_(std::uint32_t left, std::uint32_t right) noexcept { return entry_word(kind::and_, left, right); }
-constexpr std::uint32_t since(std::uint32_t left, std::uint32_t right) noexcept { return entry_word(kind::since, left, right); }
-constexpr std::uint32_t until(std::uint32_t left, std::uint32_t right) noexcept { return entry_word(kind::until, left, right); }
+constexpr std::uint32_t or_(std::uint32_t left, std::uint32_t right) noexcept {
+    return entry_word(kind::or_, left, right);
+}
+constexpr std::uint32_t and_(std::uint32_t left, std::uint32_t right) noexcept {
+    return entry_word(kind::and_, left, right);
+}
+constexpr std::uint32_t since(std::uint32_t left, std::uint32_t right) noexcept {
+    return entry_word(kind::since, left, right);
+}
+constexpr std::uint32_t until(std::uint32_t left, std::uint32_t right) noexcept {
+    return entry_word(kind::until, left, right);
+}
 
 // ---- Questions
 
-// What every call is asked. Name the members that you give (.prefix = ..), and leave out those whose default will do: a member that comes later has a
-// default too, so it breaks no caller.
+// What every call is asked. Name the members that you give (.prefix = ..), and leave out those whose default
+// will do: a member that comes later has a default too, so it breaks no caller.
 struct question {
     letters prefix{}, loop{};
     words table{};
@@ -109,7 +121,8 @@ inline constexpr std::array<std::string_view, 15> refusal_names = {
 };
 
 constexpr std::string_view name(refusal r) noexcept {
-    return std::size_t(r) < refusal_names.size() ? refusal_names[std::size_t(r)] : std::string_view("unknown refusal");
+    return std::size_t(r) < refusal_names.size() ? refusal_names[std::size_t(r)]
+                                                 : std::string_view("unknown refusal");
 }
 
 // A verdict, or a refusal with its name and place. True if it is a verdict.
@@ -124,31 +137,39 @@ struct answer {
     constexpr bool operator==(const answer&) const noexcept = default;
 };
 
-constexpr answer answer_of(const chickvessel_answer& a) noexcept { return {refusal(a.number), a.place, verdict(a.verdict), a.size}; }
+constexpr answer answer_of(const chickvessel_answer& a) noexcept {
+    return {refusal(a.number), a.place, verdict(a.verdict), a.size};
+}
 
 // ---- The calls
 
 // The verdict.
 inline answer truth(const question& q, std::span<std::uint16_t> work) noexcept {
-    return answer_of(chickvessel_truth(q.prefix.data(), q.prefix.size(), q.loop.data(), q.loop.size(), q.table.data(), q.table.size(), q.entry, q.position,
+    return answer_of(chickvessel_truth(q.prefix.data(), q.prefix.size(), q.loop.data(), q.loop.size(),
+                                       q.table.data(), q.table.size(), q.entry, q.position,
                                        work.data(), work.size()));
 }
 
 // The verdict and the size of the least tree.
 inline answer find(const question& q, std::span<std::uint16_t> work) noexcept {
-    return answer_of(chickvessel_find(q.prefix.data(), q.prefix.size(), q.loop.data(), q.loop.size(), q.table.data(), q.table.size(), q.entry, q.position,
+    return answer_of(chickvessel_find(q.prefix.data(), q.prefix.size(), q.loop.data(), q.loop.size(),
+                                      q.table.data(), q.table.size(), q.entry, q.position,
                                       work.data(), work.size()));
 }
 
-// The verdict and the least tree itself: answer.size words at the front of tree. Neither work nor tree may overlap anything else.
-inline answer write(const question& q, std::span<std::uint16_t> work, std::span<std::uint32_t> tree) noexcept {
-    return answer_of(chickvessel_write(q.prefix.data(), q.prefix.size(), q.loop.data(), q.loop.size(), q.table.data(), q.table.size(), q.entry, q.position,
+// The verdict and the least tree itself: answer.size words at the front of tree. Neither work
+// nor tree may overlap anything else.
+inline answer write(const question& q, std::span<std::uint16_t> work,
+                    std::span<std::uint32_t> tree) noexcept {
+    return answer_of(chickvessel_write(q.prefix.data(), q.prefix.size(), q.loop.data(), q.loop.size(),
+                                       q.table.data(), q.table.size(), q.entry, q.position,
                                        work.data(), work.size(), tree.data(), tree.size()));
 }
 
 // Whether the words are a valid tree, and the verdict that it proves.
 inline answer check(const question& q, words tree) noexcept {
-    return answer_of(chickvessel_check(q.prefix.data(), q.prefix.size(), q.loop.data(), q.loop.size(), q.table.data(), q.table.size(), q.entry, q.position,
+    return answer_of(chickvessel_check(q.prefix.data(), q.prefix.size(), q.loop.data(), q.loop.size(),
+                                       q.table.data(), q.table.size(), q.entry, q.position,
                                        tree.data(), tree.size()));
 }
 
@@ -178,19 +199,20 @@ struct node {
     std::size_t entry = 0;    // it proves that verdict of this entry
     std::size_t position = 0; // at this position
     std::size_t atom = 0;     // rules 1 and 2: the atom; in other nodes of a tree 0
-    std::size_t count = 0;    // rules 11 to 16: how many of the parts are list members; they are the last parts
+    std::size_t count = 0;    // rules 11 to 16: how many of the parts, the last ones, are list members
     std::size_t parts = 0;    // how many parts it has, each with all that is below it
     std::size_t depth = 0;    // 0 for the root
     std::size_t part = 0;     // which of its parent's parts it is, from 0
     std::size_t index = 0;    // of its word
 };
 
-// The nodes of a tree in the order of its words: a node, then all that is below its first part, and so on. It walks words that check accepts for the
-// question to their end. Other words it walks as far as they read like a tree and then stops; it never reads outside the lists. The question's lists
-// and the words are not copied, and must outlive the view and its iterators.
+// The nodes of a tree in the order of its words: a node, then all that is below its first part, and so on. It
+// walks words that check accepts for the question to their end. Other words it walks as far as they read like
+// a tree and then stops; it never reads outside the lists. The question's lists and the words are not copied,
+// and must outlive the view and its iterators.
 //
-// An iterator holds the way down to its node: at most 32 levels, since the entry of a part is earlier than the one of its node. It takes
-// less than 1 KiB.
+// An iterator holds the way down to its node: at most 32 levels, since the entry of a part is earlier than
+// the one of its node. It takes less than 1 KiB.
 class tree_view {
 public:
     class iterator;
@@ -228,7 +250,9 @@ public:
     }
 
     constexpr bool operator==(std::default_sentinel_t) const noexcept { return over; }
-    constexpr bool operator==(const iterator& other) const noexcept { return over == other.over && (over || now.index == other.now.index); }
+    constexpr bool operator==(const iterator& other) const noexcept {
+        return over == other.over && (over || now.index == other.now.index);
+    }
 
 private:
     friend class tree_view;
@@ -244,7 +268,8 @@ private:
         std::size_t entry, position;
     };
 
-    constexpr iterator(words table, std::size_t entry, std::size_t position, words tree) noexcept : entries(table), list(tree) {
+    constexpr iterator(words table, std::size_t entry, std::size_t position, words tree) noexcept
+        : entries(table), list(tree) {
         over = !arrive({entry, position}, 0, 0);
     }
 
@@ -261,10 +286,12 @@ private:
     constexpr bool arrive(claim at, std::size_t depth, std::size_t part) noexcept {
         if (index == list.size() || at.entry >= entries.size() || depth == levels.size()) return false;
         const std::uint32_t word = list[index], rule = word >> 24, number = word & 65535;
-        if (rule == 0 || rule >= rules.size() || entries[at.entry] >> 16 != std::uint32_t(rules[rule].kind)) return false;
+        if (rule == 0 || rule >= rules.size()) return false;
+        if (entries[at.entry] >> 16 != std::uint32_t(rules[rule].kind)) return false;
         const std::uint32_t count = rule >= 11 ? number : 0;
         // A list that would begin before 0, or one that must not be empty, is in no tree.
-        if ((rule == 11 && count > at.position) || ((rule == 12 || rule == 13) && count > at.position + 1)) return false;
+        if (rule == 11 && count > at.position) return false;
+        if ((rule == 12 || rule == 13) && count > at.position + 1) return false;
         if ((rule == 12 || rule == 15) && count == 0) return false;
         now = {};
         now.rule = rule, now.kind = rules[rule].kind, now.verdict = rules[rule].verdict;
@@ -277,7 +304,8 @@ private:
 
     // What a part of a node is about.
     constexpr claim part_of(const level& l, std::uint32_t part) const noexcept {
-        const std::size_t left = entries[l.entry] >> 8 & 255, right = entries[l.entry] & 255, i = l.position, n = l.count;
+        const std::size_t left = entries[l.entry] >> 8 & 255, right = entries[l.entry] & 255;
+        const std::size_t i = l.position, n = l.count;
         const std::size_t member = has_first_part(l.rule) ? part - 1 : part; // of the list
         const bool first = has_first_part(l.rule) && part == 0;
         switch (l.rule) {
@@ -296,7 +324,8 @@ private:
     constexpr void next() noexcept {
         if (over) return;
         std::size_t depth = now.depth + 1; // of the node to come
-        while (depth > 0 && levels[depth - 1].taken == parts_of(levels[depth - 1].rule, levels[depth - 1].count)) --depth;
+        const auto done = [](const level& l) { return l.taken == parts_of(l.rule, l.count); };
+        while (depth > 0 && done(levels[depth - 1])) --depth;
         if (depth == 0) {
             over = true;
             return;
@@ -313,7 +342,9 @@ private:
     bool over = true;
 };
 
-constexpr tree_view::iterator tree_view::begin() const noexcept { return iterator(asked.table, asked.entry, asked.position, list); }
+constexpr tree_view::iterator tree_view::begin() const noexcept {
+    return iterator(asked.table, asked.entry, asked.position, list);
+}
 
 } // namespace chickvessel
 

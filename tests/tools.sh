@@ -1,5 +1,5 @@
-# What the tests are built and run with, from the top of the repository: CXX, a compiler for x86-64; RUN, what a program of it is run with; RUN_RT, what a
-# program of rt is.
+# What the tests are built and run with, from the top of the repository: CXX, a compiler for x86-64; RUN, what
+# a program of it is run with; RUN_RT, what a program of rt is.
 # Rattle's archives are x86-64 on every machine, so the programs that link them are too.
 
 # need COMMAND PACKAGE: installs a Debian package if its command is missing.
@@ -25,5 +25,5 @@ else
     need x86_64-linux-gnu-g++ g++-x86-64-linux-gnu
     CXX=x86_64-linux-gnu-g++
     libc=$("$CXX" -print-file-name=libc.so.6)
-    RUN=("$kit/on/$(uname -m)/toolchain/bin/qemu-x86_64" -L "$(dirname "$(dirname "$libc")")")
+    RUN=("$toolchain/bin/qemu-x86_64" -L "$(dirname "$(dirname "$libc")")")
 fi

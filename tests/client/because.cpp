@@ -5,8 +5,9 @@ namespace client {
 
 namespace {
 
-constexpr const char* ATOMS[] = {"at home",  "at the oven", "on the road", "at the stall", "awake", "the stall is open",
-                                 "at the gate", "at the tower", "the bell rings", "the lamp is lit"};
+constexpr const char* ATOMS[] = {"at home", "at the oven", "on the road", "at the stall", "awake",
+                                 "the stall is open", "at the gate", "at the tower", "the bell rings",
+                                 "the lamp is lit"};
 constexpr const char* KINDS[] = {"", "not", "or", "and", "since", "until"};
 
 // ", and its left side at 3" or ", and its left side from 3 to 5"; nothing for an empty list.
@@ -54,7 +55,10 @@ void because(const chickvessel::node& n, std::FILE* to) {
         std::fprintf(to, "at half-hour %zu its left side is violated", i + count - 1);
         list("right", i, count, to);
         break;
-    case 16: std::fprintf(to, "its right side is violated from half-hour %zu to %zu, and so for ever", i, i + count - 1); break;
+    case 16:
+        std::fprintf(to, "its right side is violated from half-hour %zu to %zu, and so for ever", i,
+                     i + count - 1);
+        break;
     }
 }
 

@@ -1,4 +1,5 @@
-// outline < SAMPLE: why a schedule keeps or breaks its rule, as an outline in words: what is below a line, and further in, is why that line is so.
+// outline < SAMPLE: why a schedule keeps or breaks its rule, as an outline in words: what is below a line,
+// and further in, is why that line is so.
 #include "because.hpp"
 #include "sample.hpp"
 

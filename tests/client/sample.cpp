@@ -9,7 +9,8 @@ namespace client {
 
 namespace {
 
-// The numbers of a list with commas between them; false if there is no room for them or something else stands there.
+// The numbers of a list with commas between them; false if there is no room for
+// them or something else stands there.
 bool numbers(const char* text, std::span<std::uint32_t> into, std::size_t& count) {
     for (count = 0; *text != '\n'; ++count) {
         char* end = nullptr;
@@ -39,7 +40,8 @@ bool read(std::FILE* from, sample& into) {
         } else if (const char* again = after("loop=", line)) {
             if (!numbers(again, into.loop, into.loop_length)) return false;
         } else if (const char* entry = after("entry=", line)) {
-            if (!numbers(entry, fields, count) || count != 3 || into.table_length == chickvessel::max_entries) return false;
+            if (!numbers(entry, fields, count) || count != 3) return false;
+            if (into.table_length == chickvessel::max_entries) return false;
             into.table[into.table_length++] = fields[0] << 16 | fields[1] << 8 | fields[2];
         } else if (const char* ask = after("ask=", line)) {
             if (!numbers(ask, fields, count) || count != 2) return false;

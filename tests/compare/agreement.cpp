@@ -31,20 +31,25 @@ answers answers_with(const test_case& c, std::uint16_t held) {
 
 std::string agreement(const test_case& c) {
     const auto expect = [&](bool as_should, const std::string& what) {
-        if (!as_should) throw failure(c.where + ": the library's calls do not agree: " + what + "\n" + line_of(c));
+        if (!as_should)
+            throw failure(c.where + ": the library's calls do not agree: " + what + "\n" + line_of(c));
     };
     const answers a = answers_with(c, 0);
     for (std::uint16_t held : {0x0001, 0x1000, 0x2001, 0x3000, 0xffff})
-        expect(answers_with(c, held) == a, "a work slice full of " + std::to_string(held) + " and one full of 0");
+        expect(answers_with(c, held) == a,
+               "a work slice full of " + std::to_string(held) + " and one full of 0");
     expect(a.found == a.written, "find " + text_of(a.found) + ", write " + text_of(a.written));
     if (a.found.number == 11) {
         expect(a.truth.number == 0, "truth " + text_of(a.truth) + ", find 11");
         return "too large alike";
     }
-    expect(a.truth == answer{a.found.number, 0, a.found.verdict, 0}, "truth " + text_of(a.truth) + ", find " + text_of(a.found));
+    expect(a.truth == answer{a.found.number, 0, a.found.verdict, 0},
+           "truth " + text_of(a.truth) + ", find " + text_of(a.found));
     if (a.found.number != 0) return "refused alike";
-    const answer checked = library::check(c.prefix, c.loop, c.table, c.entry, c.position, words(a.tree).first(a.found.size));
-    expect(checked == answer{0, 0, a.found.verdict, 0}, "write " + text_of(a.found) + ", check of its words " + text_of(checked));
+    const answer checked =
+        library::check(c.prefix, c.loop, c.table, c.entry, c.position, words(a.tree).first(a.found.size));
+    expect(checked == answer{0, 0, a.found.verdict, 0},
+           "write " + text_of(a.found) + ", check of its words " + text_of(checked));
     return "all four alike";
 }
 

@@ -7,7 +7,9 @@ namespace compare {
 
 namespace {
 
-bool asks_something(const std::string& shape) { return shape != "view" && shape != "text" && shape != "damaged-text"; }
+bool asks_something(const std::string& shape) {
+    return shape != "view" && shape != "text" && shape != "damaged-text";
+}
 
 } // namespace
 

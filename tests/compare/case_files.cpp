@@ -8,7 +8,8 @@ namespace compare {
 
 std::string case_files(const std::filesystem::path& folder) {
     second::tally t("case files", {"lines"}, {}, {});
-    const std::set<std::filesystem::path> files(std::filesystem::directory_iterator(folder), {}); // in the same order everywhere
+    // In the same order everywhere.
+    const std::set<std::filesystem::path> files(std::filesystem::directory_iterator(folder), {});
     for (const auto& file : files)
         for (const second::test_case& c : second::read_cases(file)) {
             if (!offers(c.what)) continue;

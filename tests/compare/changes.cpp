@@ -66,7 +66,8 @@ bool sign_turned(test_case& c, random_source& r) {
     if (node.rule < 1 || node.rule > 16) return false;
     std::vector<std::uint32_t> others;
     for (std::uint32_t rule = 1; rule <= 16; ++rule)
-        if (RULES[rule].kind == RULES[node.rule].kind && RULES[rule].verdict != RULES[node.rule].verdict) others.push_back(rule);
+        if (RULES[rule].kind == RULES[node.rule].kind && RULES[rule].verdict != RULES[node.rule].verdict)
+            others.push_back(rule);
     word = word_of({r.pick(others), node.atom, node.number});
     return true;
 }
@@ -102,12 +103,14 @@ bool another_position(test_case& c, random_source& r) {
 
 // Numbers that a narrower type would take for a smaller one.
 bool entry_past_the_table(test_case& c, random_source& r) {
-    c.entry = r.one_in(3) ? r.pick({c.table.size(), c.table.size() + 1, SIZE_MAX}) : c.entry + (std::size_t(1) << r.between(5, 63));
+    c.entry = r.one_in(3) ? r.pick({c.table.size(), c.table.size() + 1, SIZE_MAX})
+                          : c.entry + (std::size_t(1) << r.between(5, 63));
     return true;
 }
 
 bool position_past_255(test_case& c, random_source& r) {
-    c.position = r.one_in(3) ? r.pick({256, 257, SIZE_MAX}) : c.position + (std::size_t(1) << r.between(8, 63));
+    c.position = r.one_in(3) ? r.pick({256, 257, SIZE_MAX})
+                             : c.position + (std::size_t(1) << r.between(8, 63));
     return true;
 }
 

@@ -1,4 +1,5 @@
-// The changes that are made to a call, one at a time: to what is asked, to the lists, and to the tree that a check call has.
+// The changes that are made to a call, one at a time: to what is asked, to the lists, and
+// to the tree that a check call has.
 #pragma once
 
 #include "cases.hpp"

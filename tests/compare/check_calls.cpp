@@ -27,18 +27,20 @@ std::string break_class(const test_case& c) {
     const std::size_t place = c.expected.place;
     if (place == c.tree.size()) return "missing word";
     if (place == 0) return "wrong root";
-    const bool ended = check(c.prefix, c.loop, c.table, c.entry, c.position, words(c.tree).first(place)).number == 0;
-    return ended ? "word left over" : "wrong part";
+    const answer before = check(c.prefix, c.loop, c.table, c.entry, c.position, words(c.tree).first(place));
+    return before.number == 0 ? "word left over" : "wrong part";
 }
 
 tally everything_to_meet(const std::vector<change>& changes) {
     std::vector<std::string> must = {
-        "calls", "prefix null", "loop null", "table null", "tree null", "entry the largest", "position the largest",
-        "accepted", "accepted of 1 to 9 words", "accepted of 10 to 99", "accepted of 100 to 999", "accepted of 1000 to 4094", "accepted of 4095",
+        "calls", "prefix null", "loop null", "table null", "tree null", "entry the largest",
+        "position the largest", "accepted", "accepted of 1 to 9 words", "accepted of 10 to 99",
+        "accepted of 100 to 999", "accepted of 1000 to 4094", "accepted of 4095",
         "wrong root", "wrong part", "missing word", "word left over",
     };
     for (const change& made : changes) must.push_back(made.name);
-    return tally("check", must, {1, 2, 3, 4, 5, 6, 7, 9, 10}, {1, 2, 3, 4, 5, 6, 7, 8, 9, 10, 11, 12, 13, 14, 15, 16});
+    return tally("check", must, {1, 2, 3, 4, 5, 6, 7, 9, 10},
+                 {1, 2, 3, 4, 5, 6, 7, 8, 9, 10, 11, 12, 13, 14, 15, 16});
 }
 
 void count(const test_case& c, tally& t) {
@@ -50,7 +52,8 @@ void count(const test_case& c, tally& t) {
     if (c.entry == SIZE_MAX) t.met("entry the largest");
     if (c.position == SIZE_MAX) t.met("position the largest");
     t.met_refusal(c.expected.number);
-    if (c.expected.number == 0) t.met("accepted"), t.met("accepted " + size_class(c.tree.size())), t.met_root(c.tree[0]);
+    if (c.expected.number == 0)
+        t.met("accepted"), t.met("accepted " + size_class(c.tree.size())), t.met_root(c.tree[0]);
     if (c.expected.number == 9) t.met(break_class(c));
 }
 

@@ -12,7 +12,9 @@ using namespace second;
 
 constexpr std::size_t DRAWS = 320, DRAWS_OF_AND_CHAINS = 8;
 
-bool refused_with_any_tree(const test_case& c) { return check(c.prefix, c.loop, c.table, c.entry, c.position, {}).number != 9; }
+bool refused_with_any_tree(const test_case& c) {
+    return check(c.prefix, c.loop, c.table, c.entry, c.position, {}).number != 9;
+}
 
 test_case with_tree(test_case c, random_source& r) {
     if (c.what == call::check) return c;
@@ -27,7 +29,8 @@ test_case far_witness(random_source& r) {
     test_case c;
     c.what = call::check;
     c.loop.assign(r.between(1, 3), 3);
-    c.table = {entry_word(ATOM, 0, 0), entry_word(ATOM, 1, 0), entry_word(UNTIL, 0, 1), entry_word(NOT, 2, 0)};
+    c.table = {entry_word(ATOM, 0, 0), entry_word(ATOM, 1, 0), entry_word(UNTIL, 0, 1),
+               entry_word(NOT, 2, 0)};
     c.entry = r.between(2, 3), c.position = r.between(1, MAX_POSITION);
     const std::uint32_t i = std::uint32_t(c.position), n = 65536 - std::uint32_t(r.between(1, c.position));
     if (c.entry == 3) c.tree.push_back(word_of({4, 0, 0}));
@@ -40,7 +43,8 @@ test_case far_witness(random_source& r) {
 std::vector<call_shape> check_shapes() {
     std::vector<call_shape> shapes = {{"far-witness", DRAWS, far_witness}};
     for (const call_shape& asks : shapes_that_ask(DRAWS, DRAWS_OF_AND_CHAINS))
-        shapes.push_back({asks.name, asks.draws, [asks](random_source& r) { return with_tree(asks.draw(r), r); }});
+        shapes.push_back(
+            {asks.name, asks.draws, [asks](random_source& r) { return with_tree(asks.draw(r), r); }});
     return shapes;
 }
 

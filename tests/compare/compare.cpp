@@ -1,4 +1,5 @@
-// compare CASES [SEED]: the proved library against the second program, call by call. CASES is the folder of the case files.
+// compare CASES [SEED]: the proved library against the second program, call by call. CASES
+// is the folder of the case files.
 #include "comparison.hpp"
 
 #include <iostream>

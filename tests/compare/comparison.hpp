@@ -1,4 +1,5 @@
-// The parts of the comparison. Each throws second::failure at the first difference and returns the lines of its counts.
+// The parts of the comparison. Each throws second::failure at the first difference and
+// returns the lines of its counts.
 #pragma once
 
 #include "random.hpp"

@@ -22,7 +22,8 @@ bool offers(second::call what) { return LIBRARY.offers(what); }
 
 void hold(const second::test_case& c, std::uint32_t junk) {
     if (const std::string d = difference(c, LIBRARY, junk); !d.empty())
-        throw second::failure(c.where + ": the library " + d + "\nthe call, as a line of a case file:\n" + line_of(c));
+        throw second::failure(c.where + ": the library " + d + "\nthe call, as a line of a case file:\n" +
+                              line_of(c));
 }
 
 } // namespace compare

@@ -16,7 +16,8 @@ struct length {
 std::vector<length> work_lengths();
 inline constexpr std::size_t ENOUGH = 2;
 
-// Of a tree buffer for a tree of so many words: none, about as many as are needed, as many as are always enough, more.
+// Of a tree buffer for a tree of so many words: none, about as many as are needed, as
+// many as are always enough, more.
 std::vector<length> room_lengths(std::size_t words);
 
 } // namespace compare

@@ -1,5 +1,5 @@
-// Random calls of truth, find and write: each question drawn, then changed in every way, with buffers of all lengths, against the reference's
-// answers.
+// Random calls of truth, find and write: each question drawn, then changed in every way, with buffers of all
+// lengths, against the reference's answers.
 #include "comparison.hpp"
 
 #include "agreement.hpp"
@@ -19,7 +19,8 @@ using namespace second;
 
 constexpr std::uint64_t LEAST_CALLS = 20000; // of each
 
-// On chains of and(k - 1, k - 2) the heights cost more than they cost a check: each row of the filling asks for them again.
+// On chains of and(k - 1, k - 2) the heights cost more than they cost a check: each row of
+// the filling asks for them again.
 constexpr std::size_t DRAWS = 160, DRAWS_OF_AND_CHAINS = 4, DRAWS_OF_SPECIAL = 200;
 
 std::vector<call_shape> shapes() {
@@ -40,7 +41,8 @@ public:
         of_write.insert(of_write.end(), all.begin(), all.end());
         tallies = {tally("truth", all, {1, 2, 3, 4, 5, 6, 7, 8}, {}),
                    tally("find", all, {1, 2, 3, 4, 5, 6, 7, 8, 11}, {}),
-                   tally("write", of_write, {1, 2, 3, 4, 5, 6, 7, 8, 11, 12}, {1, 2, 3, 4, 5, 6, 7, 8, 9, 10, 11, 12, 13, 14, 15, 16})};
+                   tally("write", of_write, {1, 2, 3, 4, 5, 6, 7, 8, 11, 12},
+                         {1, 2, 3, 4, 5, 6, 7, 8, 9, 10, 11, 12, 13, 14, 15, 16})};
     }
 
     void met(call what, const std::string& name) { tallies[int(what)].met(name); }
@@ -55,7 +57,8 @@ public:
     std::string lines() const {
         std::string all;
         for (int k = 0; k < 3; ++k) {
-            if (calls[k] < LEAST_CALLS) throw failure(name_of(call(k)) + ": only " + std::to_string(calls[k]) + " calls");
+            if (calls[k] < LEAST_CALLS)
+                throw failure(name_of(call(k)) + ": only " + std::to_string(calls[k]) + " calls");
             all += (k > 0 ? "\n" : "") + tallies[k].line();
         }
         return all;
@@ -73,14 +76,16 @@ public:
         : asked(asked), reference(asked.prefix, asked.loop, asked.table), r(r), met(met) {
         std::vector<std::uint16_t> work(MIN_WORK);
         found = reference.find(asked.entry, asked.position, work);
-        rooms = room_lengths(found.size != 0 ? found.size : MAX_TREE + 1); // where there is no tree, as if it were just too large
+        // Where there is no tree, as if it were just too large.
+        rooms = room_lengths(found.size != 0 ? found.size : MAX_TREE + 1);
     }
 
     // All lengths of each buffer.
     void with_all_lengths() {
         for (const length& work : works)
             for (call what : CALLS) compare(what, work, r.pick(rooms));
-        for (const length& room : rooms) compare(call::write, works[r.between(ENOUGH, works.size() - 1)], room);
+        for (const length& room : rooms)
+            compare(call::write, works[r.between(ENOUGH, works.size() - 1)], room);
     }
 
     // Any lengths, the work slice mostly long enough.
@@ -135,7 +140,8 @@ std::string lent_calls(random_source r) {
     for (const call_shape& shape : shapes())
         for (std::size_t k = 0; k < shape.draws; ++k) {
             random_source own(r.next()); // a source a draw: none depends on those before it
-            const test_case drawn = shape.draw(own), as_drawn = question_of(drawn, shape.name, "nothing changed");
+            const test_case drawn = shape.draw(own);
+            const test_case as_drawn = question_of(drawn, shape.name, "nothing changed");
             question q(as_drawn, own, met);
             q.with_all_lengths(), q.with_one_another();
             for (const change& made : question_changes()) {

@@ -14,13 +14,16 @@ std::string number(std::uint32_t n) { return std::to_string(n); }
 // Rivals of the same size.
 void add_ties(std::vector<std::string>& found, const std::vector<std::uint32_t>& roots) {
     const std::uint32_t rule = node_of(roots.front()).rule;
-    if (roots.size() > 1 && node_of(roots[1]).rule == rule) found.push_back("counts of rule " + number(rule) + " tie");
+    if (roots.size() > 1 && node_of(roots[1]).rule == rule)
+        found.push_back("counts of rule " + number(rule) + " tie");
     const std::uint32_t last = node_of(roots.back()).rule;
     if (last != rule) found.push_back("rules " + number(rule) + " and " + number(last) + " tie");
 }
 
-// The least count with which the rule of a root has its first part; all that lies nearer is as the rule needs it.
-std::uint32_t nearest(const setting& where, const meaning& truth, std::size_t entry, std::uint64_t i, node_fields root) {
+// The least count with which the rule of a root has its first part; all that
+// lies nearer is as the rule needs it.
+std::uint32_t nearest(const setting& where, const meaning& truth, std::size_t entry, std::uint64_t i,
+                      node_fields root) {
     const entry_fields e = where.entries[entry];
     const auto first_part = [&](std::uint32_t n) {
         switch (root.rule) {
@@ -35,7 +38,8 @@ std::uint32_t nearest(const setting& where, const meaning& truth, std::size_t en
     return n;
 }
 
-void add_witness(std::vector<std::string>& found, std::uint32_t rule, std::uint32_t further, std::size_t lap) {
+void add_witness(std::vector<std::string>& found, std::uint32_t rule, std::uint32_t further,
+                 std::size_t lap) {
     const std::string name = "rule " + number(rule) + " takes a witness ";
     if (further > 0) found.push_back(name + "past the nearest");
     if (rule < 14) return;
@@ -67,7 +71,8 @@ std::vector<std::string> specials_of(const test_case& c) {
     add_ties(found, roots);
     const node_fields root = node_of(roots.front());
     if (root.rule >= 11 && root.rule != 13 && root.rule != 16)
-        add_witness(found, root.rule, root.number - nearest(where, truth, c.entry, c.position, root), c.loop.size());
+        add_witness(found, root.rule, root.number - nearest(where, truth, c.entry, c.position, root),
+                    c.loop.size());
     return found;
 }
 

@@ -33,8 +33,8 @@ struct making {
         return entry;
     }
 
-    // Cheap, and holds for the first time in the loop's first letter so many laps on, or in its second letter. Atom 2 + k holds in the loop's letter
-    // k; each since hides what it waits for a lap longer.
+    // Cheap, and holds for the first time in the loop's first letter so many laps on, or in its second
+    // letter. Atom 2 + k holds in the loop's letter k; each since hides what it waits for a lap longer.
     std::size_t laps_on(std::size_t laps) {
         if (laps == 0) return add(ATOM, 3, 0);
         std::size_t entry = add(ATOM, 2 + laps, 0);
@@ -53,7 +53,8 @@ test_case question(test_case c, const making& m, std::size_t position) {
     return c;
 }
 
-// A witness at once that is dear, and a cheap one later, up to two laps on: of an until that holds, or of one that is violated.
+// A witness at once that is dear, and a cheap one later, up to two laps on: of an until that
+// holds, or of one that is violated.
 test_case later_witness(random_source& r) {
     test_case c;
     const std::size_t laps = r.below(3);
@@ -85,8 +86,10 @@ test_case earlier_witness(random_source& r) {
     return question(c, m, r.between(40, MAX_POSITION));
 }
 
-// An entry that has one verdict at one place, before the loop comes again, and the other at all other places, with trees of so many words.
-std::size_t at_one_place(making& m, test_case& c, std::uint32_t atom, std::size_t place, std::size_t words, bool holds) {
+// An entry that has one verdict at one place, before the loop comes again, and the other at all other
+// places, with trees of so many words.
+std::size_t at_one_place(making& m, test_case& c, std::uint32_t atom, std::size_t place, std::size_t words,
+                         bool holds) {
     const bool turned = words % 2 == 0; // by an odd number of nots
     std::size_t k = 0;
     for (auto* letters : {&c.prefix, &c.loop})
@@ -111,21 +114,25 @@ test_case rules_15_and_16(random_source& r) {
     test_case c;
     c.prefix.assign(r.below(6), 1);
     c.loop.assign(r.between(2, 6), 1);
-    const std::size_t last = c.prefix.size() + c.loop.size() - 1, words = r.between(1, last), place = last - words;
+    const std::size_t last = c.prefix.size() + c.loop.size() - 1;
+    const std::size_t words = r.between(1, last), place = last - words;
     making m;
     m.add(UNTIL, at_one_place(m, c, 2, place, words, false), making::NEVER);
     return question(c, m, r.below(std::min(place, c.prefix.size()) + 1));
 }
 
-// Two witnesses, the further cheaper by as many words as it lies further off. With so much prefix behind them rules 13 and 16 are no rivals.
+// Two witnesses, the further cheaper by as many words as it lies further off. With so much prefix behind
+// them rules 13 and 16 are no rivals.
 test_case tied_counts(random_source& r) {
     test_case c;
     const bool back = r.one_in(2), holds = r.one_in(2);
-    const std::size_t apart = r.between(1, 6), low = r.between(3, 8), high = low + apart, near = back ? high : low, far = back ? low : high;
+    const std::size_t apart = r.between(1, 6), low = r.between(3, 8), high = low + apart;
+    const std::size_t near = back ? high : low, far = back ? low : high;
     c.prefix.assign(high + apart + r.between(5, 16), 1);
     c.loop.assign(r.between(1, 3), 1);
     making m;
-    const std::size_t dearer = at_one_place(m, c, 2, near, 1 + apart, holds), cheaper = at_one_place(m, c, 3, far, 1, holds);
+    const std::size_t dearer = at_one_place(m, c, 2, near, 1 + apart, holds);
+    const std::size_t cheaper = at_one_place(m, c, 3, far, 1, holds);
     const std::size_t witness = m.add(holds ? OR : AND, dearer, cheaper);
     m.add(back ? SINCE : UNTIL, holds ? making::ALWAYS : witness, holds ? witness : making::NEVER);
     return question(c, m, back ? r.between(near, MAX_POSITION) : r.below(near + 1));

@@ -62,9 +62,11 @@ std::vector<chickvessel::node> own_walk(const chickvessel::question& q, second::
 }
 
 std::string line_of(const chickvessel::node& n) {
-    std::string s = "rule " + std::to_string(n.rule) + ", kind " + std::to_string(std::uint32_t(n.kind)) + ", " + std::string(chickvessel::name(n.verdict));
-    const std::pair<const char*, std::size_t> fields[] = {{"entry", n.entry}, {"position", n.position}, {"atom", n.atom}, {"count", n.count},
-                                                          {"parts", n.parts}, {"depth", n.depth}, {"part", n.part}, {"index", n.index}};
+    std::string s = "rule " + std::to_string(n.rule) + ", kind " + std::to_string(std::uint32_t(n.kind)) +
+                    ", " + std::string(chickvessel::name(n.verdict));
+    const std::pair<const char*, std::size_t> fields[] = {
+        {"entry", n.entry}, {"position", n.position}, {"atom", n.atom}, {"count", n.count},
+        {"parts", n.parts}, {"depth", n.depth},       {"part", n.part}, {"index", n.index}};
     for (const auto& [name, value] : fields) s += std::string(", ") + name + " " + std::to_string(value);
     return s;
 }

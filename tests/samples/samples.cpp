@@ -1,4 +1,5 @@
-// samples NAME.txt..: the tree in NAME.answer, beside each text, is a tree that check accepts for the text's question, with the answer's verdict.
+// samples NAME.txt..: the tree in NAME.answer, beside each text, is a tree that check accepts for the text's
+// question, with the answer's verdict.
 #include "library.hpp"
 
 #include <fstream>
@@ -23,7 +24,8 @@ struct answer {
 numbers numbers_of(const std::string& list) {
     numbers found;
     std::istringstream in(list);
-    for (std::string number; std::getline(in, number, ',');) found.push_back(std::uint32_t(std::stoul(number)));
+    for (std::string number; std::getline(in, number, ',');)
+        found.push_back(std::uint32_t(std::stoul(number)));
     return found;
 }
 
@@ -31,7 +33,8 @@ numbers numbers_of(const std::string& list) {
 template <class Take> void lines_of(const std::string& file, Take take) {
     std::ifstream in(file);
     if (!in) throw std::runtime_error("no file " + file);
-    for (std::string line; std::getline(in, line);) take(line.substr(0, line.find('=')), line.substr(line.find('=') + 1));
+    for (std::string line; std::getline(in, line);)
+        take(line.substr(0, line.find('=')), line.substr(line.find('=') + 1));
 }
 
 question question_of(const std::string& file) {
@@ -69,7 +72,8 @@ int main(int argc, char** argv) try {
         const question q = question_of(text);
         const second::answer checked = library::check(q.prefix, q.loop, q.table, q.entry, q.position, a.tree);
         if (checked != second::answer{0, 0, a.verdict, 0})
-            throw std::runtime_error(text + ": check says " + std::to_string(checked.number) + ", place " + std::to_string(checked.place));
+            throw std::runtime_error(text + ": check says " + std::to_string(checked.number) + ", place " +
+                                     std::to_string(checked.place));
         ++accepted;
     }
     std::cout << "samples: check accepts " << accepted << " trees\n";

@@ -41,7 +41,8 @@ std::vector<std::string_view> tokens(std::string_view s) {
 std::uint64_t number(std::string_view s) {
     std::uint64_t value = 0;
     const auto [end, error] = std::from_chars(s.data(), s.data() + s.size(), value);
-    if (s.empty() || error != std::errc() || end != s.data() + s.size()) wrong("the number '" + std::string(s) + "'");
+    if (s.empty() || error != std::errc() || end != s.data() + s.size())
+        wrong("the number '" + std::string(s) + "'");
     return value;
 }
 
@@ -58,7 +59,8 @@ std::uint32_t three(std::string_view s, std::uint64_t first_unit, std::uint64_t 
     const auto fields = split(s, ',');
     if (fields.size() != 3) wrong("the word '" + std::string(s) + "'");
     const std::uint64_t a = number(fields[0]), b = number(fields[1]), c = number(fields[2]);
-    if (c >= second_unit || b >= first_unit / second_unit || a > UINT32_MAX / first_unit) wrong("the fields of '" + std::string(s) + "'");
+    if (c >= second_unit || b >= first_unit / second_unit || a > UINT32_MAX / first_unit)
+        wrong("the fields of '" + std::string(s) + "'");
     return std::uint32_t(a * first_unit + b * second_unit + c);
 }
 
@@ -120,7 +122,8 @@ char escaped(std::string_view s, std::size_t& k) {
     case 'r': return '\r';
     case 't': return '\t';
     case 'x':
-        if (hex.size() != 2 || hex.find_first_not_of("0123456789abcdef") != hex.npos) wrong("the byte \\x" + hex);
+        if (hex.size() != 2 || hex.find_first_not_of("0123456789abcdef") != hex.npos)
+            wrong("the byte \\x" + hex);
         k += 2;
         return char(std::stoul(hex, nullptr, 16));
     default: return s[k];
@@ -160,7 +163,8 @@ std::string quoted(const std::string& bytes) {
     return s + "\"";
 }
 
-std::string joined(const std::vector<std::uint32_t>& list, const char* separator, std::string (*print)(std::uint32_t)) {
+std::string joined(const std::vector<std::uint32_t>& list, const char* separator,
+                   std::string (*print)(std::uint32_t)) {
     std::string s;
     for (std::uint32_t x : list) s += (s.empty() ? "" : separator) + print(x);
     return s;
@@ -178,7 +182,9 @@ std::string node_text(std::uint32_t word) {
     return std::to_string(n.rule) + "," + std::to_string(n.atom) + "," + std::to_string(n.number);
 }
 
-std::string words_text(const std::vector<std::uint32_t>& tree) { return tree.empty() ? "-" : joined(tree, " ", node_text); }
+std::string words_text(const std::vector<std::uint32_t>& tree) {
+    return tree.empty() ? "-" : joined(tree, " ", node_text);
+}
 
 using names = std::map<std::string, lists, std::less<>>;
 
@@ -202,7 +208,8 @@ void read_question(test_case& c, std::string_view field, const names& named) {
 
 void read_part(test_case& c, std::string_view field) {
     const auto part = tokens(field);
-    if (part.size() != 3 || (part[0] != "prefix" && part[0] != "loop")) wrong("the part '" + std::string(field) + "'");
+    if (part.size() != 3 || (part[0] != "prefix" && part[0] != "loop"))
+        wrong("the part '" + std::string(field) + "'");
     c.of_loop = part[0] == "loop", c.first = number(part[1]), c.count = number(part[2]);
     if (c.first + c.count > (c.of_loop ? c.loop : c.prefix).size()) wrong("a part past the end of its list");
 }
@@ -210,7 +217,8 @@ void read_part(test_case& c, std::string_view field) {
 void read_answer(test_case& c, std::string_view field) {
     const auto numbers = tokens(field);
     if (numbers.size() != 4) wrong("the answer '" + std::string(field) + "'");
-    std::uint32_t* const fields[] = {&c.expected.number, &c.expected.place, &c.expected.verdict, &c.expected.size};
+    std::uint32_t* const fields[] = {&c.expected.number, &c.expected.place, &c.expected.verdict,
+                                     &c.expected.size};
     for (std::size_t k = 0; k < 4; ++k) *fields[k] = std::uint32_t(number(numbers[k]));
 }
 
@@ -240,7 +248,8 @@ test_case case_of_fields(const std::vector<std::string_view>& fields, const name
     if (c.what == call::check) c.tree = tree_words(fields[2]);
     else read_lengths(c, fields[2]);
     if (c.what == call::write && fields[4] != "as found") c.written = tree_words(fields[4]);
-    if (c.what == call::write && c.written.size() != c.expected.size) wrong("a size that is not the number of its words");
+    if (c.what == call::write && c.written.size() != c.expected.size)
+        wrong("a size that is not the number of its words");
     return c;
 }
 
@@ -256,7 +265,8 @@ std::vector<std::string_view> fields_of(std::string_view line) {
 std::string name_of(call what) { return NAMES[int(what)]; }
 
 std::string text_of(const answer& a) {
-    return std::to_string(a.number) + " " + std::to_string(a.place) + " " + std::to_string(a.verdict) + " " + std::to_string(a.size);
+    return std::to_string(a.number) + " " + std::to_string(a.place) + " " + std::to_string(a.verdict) + " " +
+           std::to_string(a.size);
 }
 
 test_case case_of(const std::string& line) { return case_of_fields(fields_of(line), {}); }
@@ -273,7 +283,8 @@ std::vector<test_case> read_cases(const std::filesystem::path& file) {
         try {
             const auto fields = fields_of(line);
             if (fields[0] == "schedule") {
-                if (!named.emplace(fields[1], lists_of(fields[2])).second) wrong("a second schedule '" + std::string(fields[1]) + "'");
+                if (!named.emplace(fields[1], lists_of(fields[2])).second)
+                    wrong("a second schedule '" + std::string(fields[1]) + "'");
             } else {
                 cases.push_back(case_of_fields(fields, named));
                 cases.back().where = where;
@@ -287,13 +298,15 @@ std::vector<test_case> read_cases(const std::filesystem::path& file) {
 
 std::string line_of(const test_case& c) {
     const std::string bar = " | ";
-    if (c.what == call::explain) return "explain | | " + quoted(c.text) + " | | " + quoted(c.output) + bar + c.why;
+    if (c.what == call::explain)
+        return "explain | | " + quoted(c.text) + " | | " + quoted(c.output) + bar + c.why;
     std::string s = name_of(c.what) + bar;
-    s += c.schedule.empty() ? joined(c.prefix, ",", letter_text) + ";" + joined(c.loop, ",", letter_text) + ";" + joined(c.table, "/", entry_text)
+    s += c.schedule.empty() ? joined(c.prefix, ",", letter_text) + ";" + joined(c.loop, ",", letter_text) +
+                                  ";" + joined(c.table, "/", entry_text)
                             : c.schedule;
     if (c.what == call::view)
-        return s + " " + std::to_string(c.position) + " | | " + (c.of_loop ? "loop " : "prefix ") + std::to_string(c.first) + " " +
-               std::to_string(c.count) + " | | " + c.why;
+        return s + " " + std::to_string(c.position) + " | | " + (c.of_loop ? "loop " : "prefix ") +
+               std::to_string(c.first) + " " + std::to_string(c.count) + " | | " + c.why;
     s += " " + std::to_string(c.entry) + " " + std::to_string(c.position) + bar;
     s += c.what == call::check ? words_text(c.tree) : std::to_string(c.work);
     if (c.what == call::write) s += " " + std::to_string(c.room);

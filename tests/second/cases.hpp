@@ -1,16 +1,18 @@
-// Test cases as data, a line a case: reading them, printing them, and holding any program that offers the calls against them.
+// Test cases as data, a line a case: reading them, printing them, and holding any program
+// that offers the calls against them.
 //
 // A line is six fields with | between them; a line that begins with # says something to the reader.
 //   schedule | name                    | prefix;loop;table | | | what it is
-//   truth    | schedule entry position | work length       | number place verdict size |         | source, and why it is here
-//   find     | schedule entry position | work length       | number place verdict size |         | ...
-//   write    | schedule entry position | work, tree length | number place verdict size | words, or: as found | ...
-//   check    | schedule entry position | words             | number place verdict size |         | ...
-//   view     | schedule position       |                   | prefix or loop, first letter, count |  | ...
-//   explain  |                         | text              |                           | output  | ...
-// A schedule is a name from a line above, or the three lists themselves. Letters stand with commas, entries as kind,left,right with slashes, tree
-// words as rule,atom,number with spaces, - for none. x*9 is x nine times, 1,0,0..9 ten words of rising number. A text is "pieces" in quotes with
-// \n \r \t \\ \" \xNN, each perhaps *9.
+//   truth    | schedule entry position | work length       | answer |        | source, and why it is here
+//   find     | schedule entry position | work length       | answer |        | ...
+//   write    | schedule entry position | work, tree length | answer | words, or: as found | ...
+//   check    | schedule entry position | words             | answer |        | ...
+//   view     | schedule position       |                   | prefix or loop, first letter, count | | ...
+//   explain  |                         | text              |        | output | ...
+// An answer is number place verdict size. A schedule is a name from a line above, or the three lists
+// themselves. Letters stand with commas, entries as kind,left,right with slashes, tree words as
+// rule,atom,number with spaces, - for none. x*9 is x nine times, 1,0,0..9 ten words of rising number. A text
+// is "pieces" in quotes with \n \r \t \\ \" \xNN, each perhaps *9.
 #pragma once
 
 #include "reference.hpp"
@@ -54,7 +56,8 @@ test_case case_of(const std::string& line);
 struct program {
     using lent = std::span<std::uint16_t>;
     std::function<answer(words, words, words, std::size_t, std::size_t, lent)> truth, find;
-    std::function<answer(words, words, words, std::size_t, std::size_t, lent, std::span<std::uint32_t>)> write;
+    std::function<answer(words, words, words, std::size_t, std::size_t, lent, std::span<std::uint32_t>)>
+        write;
     std::function<answer(words, words, words, std::size_t, std::size_t, words)> check;
     std::function<words(words, words, std::size_t)> view;
     std::function<std::string(std::span<const std::uint8_t>)> explain;
@@ -62,8 +65,8 @@ struct program {
     bool offers(call what) const;
 };
 
-// What the program answers, or leaves in its buffers, other than the case expects; empty if nothing. The buffers hold junk at first, made from
-// `junk`, and lie between guards.
+// What the program answers, or leaves in its buffers, other than the case expects; empty if nothing. The
+// buffers hold junk at first, made from `junk`, and lie between guards.
 std::string difference(const test_case& c, const program& p, std::uint32_t junk);
 
 } // namespace second

@@ -1,4 +1,5 @@
-// A straight recursion in tree order. Positions are exact; a count is never held against the words that are left.
+// A straight recursion in tree order. Positions are exact; a count is never held
+// against the words that are left.
 #include "check.hpp"
 
 namespace second {
@@ -11,7 +12,8 @@ public:
 
     std::size_t next = 0; // the first word not yet accepted
 
-    // Takes the part that begins at `next` for a claim, the verdict 0 being any; stops at the first word that breaks a rule of its own node.
+    // Takes the part that begins at `next` for a claim, the verdict 0 being any; stops at the first word
+    // that breaks a rule of its own node.
     bool part(std::size_t entry, std::uint64_t i, std::uint32_t verdict) {
         if (next == tree.size()) return false;
         const node_fields node = node_of(tree[next]);

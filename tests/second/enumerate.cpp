@@ -14,16 +14,19 @@ unsigned left(std::uint32_t entry) { return entry >> 8 & 255; }
 unsigned right(std::uint32_t entry) { return entry & 255; }
 
 constexpr unsigned KIND[] = {9, 0, 0, 1, 1, 2, 2, 2, 3, 3, 3, 4, 4, 4, 5, 5, 5};
-constexpr bool HOLDING[] = {false, true, false, true, false, true, true, false, true, false, false, true, false, false, true, false, false};
+constexpr bool HOLDING[] = {false, true,  false, true,  false, true,  true, false, true,
+                            false, false, true,  false, false, true,  false, false};
 
 } // namespace
 
-enumerator::enumerator(list prefix, list loop, list table) : prefix(prefix), loop(loop), table(table), past(table.size(), 0) {
+enumerator::enumerator(list prefix, list loop, list table)
+    : prefix(prefix), loop(loop), table(table), past(table.size(), 0) {
     // Heights settle from below: after as many rounds as there are entries nothing moves any more.
     for (std::size_t round = 0; round < table.size(); ++round)
         for (std::size_t k = 0; k < table.size(); ++k) {
-            if (kind(table[k]) >= 1) past[k] = std::max(past[k], past[left(table[k])] + (kind(table[k]) == 4));
-            if (kind(table[k]) >= 2) past[k] = std::max(past[k], past[right(table[k])] + (kind(table[k]) == 4));
+            const bool since = kind(table[k]) == 4;
+            if (kind(table[k]) >= 1) past[k] = std::max(past[k], past[left(table[k])] + since);
+            if (kind(table[k]) >= 2) past[k] = std::max(past[k], past[right(table[k])] + since);
         }
 }
 
@@ -35,10 +38,13 @@ bool enumerator::letter_has(std::uint32_t atom, std::uint64_t position) const {
 }
 
 // What a rule with a number needs at i, in tree order; nothing if it proves nothing there.
-std::optional<std::vector<enumerator::claim>> enumerator::needs(unsigned rule, std::size_t entry, std::uint64_t i, std::uint64_t number) const {
+std::optional<std::vector<enumerator::claim>> enumerator::needs(unsigned rule, std::size_t entry,
+                                                                std::uint64_t i, std::uint64_t number) const {
     const std::size_t l = left(table[entry]), r = right(table[entry]);
     const std::uint64_t n = number, u = prefix.size(), v = loop.size();
-    const auto only = [](bool fits, std::vector<claim> claims) { return fits ? std::optional(std::move(claims)) : std::nullopt; };
+    const auto only = [](bool fits, std::vector<claim> claims) {
+        return fits ? std::optional(std::move(claims)) : std::nullopt;
+    };
     switch (rule) {
     case 1: return only(letter_has(std::uint32_t(l), i) && number == i, {});
     case 2: return only(!letter_has(std::uint32_t(l), i) && number == i, {});
@@ -51,7 +57,8 @@ std::optional<std::vector<enumerator::claim>> enumerator::needs(unsigned rule, s
     case 9: return only(number == 0, {{l, i, i + 1, false}});
     case 10: return only(number == 0, {{r, i, i + 1, false}});
     case 11: return only(n <= i, {{r, i - n, i - n + 1, true}, {l, i - n + 1, i + 1, true}});
-    case 12: return only(1 <= n && n <= i + 1, {{l, i - n + 1, i - n + 2, false}, {r, i - n + 1, i + 1, false}});
+    case 12:
+        return only(1 <= n && n <= i + 1, {{l, i - n + 1, i - n + 2, false}, {r, i - n + 1, i + 1, false}});
     case 13: return only(n == i + 1, {{r, 0, i + 1, false}});
     case 14: return only(true, {{r, i + n, i + n + 1, true}, {l, i, i + n, true}});
     case 15: return only(n >= 1, {{l, i + n - 1, i + n, false}, {r, i, i + n, false}});
@@ -92,7 +99,8 @@ std::vector<enumerator::tree> enumerator::rows(const std::vector<claim>& claims,
     return found;
 }
 
-const std::vector<enumerator::tree>& enumerator::trees(std::size_t entry, std::uint64_t position, bool holding, std::size_t words) {
+const std::vector<enumerator::tree>& enumerator::trees(std::size_t entry, std::uint64_t position,
+                                                       bool holding, std::size_t words) {
     const std::vector<std::uint64_t> key{entry, position, holding, words};
     if (const auto at = known.find(key); at != known.end()) return at->second;
     std::vector<tree> found;
@@ -112,8 +120,9 @@ const std::vector<enumerator::tree>& enumerator::trees(std::size_t entry, std::u
     return known[key] = std::move(found);
 }
 
-// A pile of claims still to be proved, the next one on top. A word may stand next if some rule of the top claim's kind and verdict, with the
-// number in the word's low half, needs something there and has exactly this word.
+// A pile of claims still to be proved, the next one on top. A word may stand next if some rule
+// of the top claim's kind and verdict, with the number in the word's low half, needs something
+// there and has exactly this word.
 std::optional<std::size_t> enumerator::break_of(std::size_t entry, std::uint64_t position, list words) const {
     std::vector<claim> pile;
     for (std::size_t k = 0; k < words.size(); ++k) {
@@ -124,7 +133,8 @@ std::optional<std::size_t> enumerator::break_of(std::size_t entry, std::uint64_t
         for (unsigned rule = 1; rule <= 16 && !below; ++rule) {
             const std::uint64_t number = words[k] & 65535;
             if (KIND[rule] != kind(table[next.entry]) || (k > 0 && HOLDING[rule] != next.holding)) continue;
-            if (word(rule, next.entry, number) == words[k]) below = needs(rule, next.entry, next.from, number);
+            if (word(rule, next.entry, number) == words[k])
+                below = needs(rule, next.entry, next.from, number);
         }
         if (!below) return k;
         if (k > 0) ++pile.back().from;

@@ -1,6 +1,8 @@
-// Every valid tree of a tiny input, listed straight from the rule table; and the place where a list of words leaves the table.
+// Every valid tree of a tiny input, listed straight from the rule table; and the place where
+// a list of words leaves the table.
 //
-// Nothing here comes from the reference: the letter, the heights, the rules and the form of a word are written again, plainly.
+// Nothing here comes from the reference: the letter, the heights, the rules and the form of a
+// word are written again, plainly.
 #pragma once
 
 #include <cstddef>
@@ -19,11 +21,13 @@ public:
 
     enumerator(list prefix, list loop, list table);
 
-    // All trees of exactly so many words that prove the entry violated (0) or holding (1) at the position. After too many trees it lists no more,
-    // and `full` is set.
-    const std::vector<tree>& trees(std::size_t entry, std::uint64_t position, bool holding, std::size_t words);
+    // All trees of exactly so many words that prove the entry violated (0) or holding (1) at the position.
+    // After too many trees it lists no more, and `full` is set.
+    const std::vector<tree>& trees(std::size_t entry, std::uint64_t position, bool holding,
+                                   std::size_t words);
 
-    // The place of refusal 9: the length of the longest beginning that can go on in some way, unless the list is a tree.
+    // The place of refusal 9: the length of the longest beginning that can go on in
+    // some way, unless the list is a tree.
     std::optional<std::size_t> break_of(std::size_t entry, std::uint64_t position, list words) const;
 
     bool full = false;
@@ -37,7 +41,8 @@ private:
     };
 
     bool letter_has(std::uint32_t atom, std::uint64_t position) const;
-    std::optional<std::vector<claim>> needs(unsigned rule, std::size_t entry, std::uint64_t i, std::uint64_t number) const;
+    std::optional<std::vector<claim>> needs(unsigned rule, std::size_t entry, std::uint64_t i,
+                                            std::uint64_t number) const;
     std::uint32_t word(unsigned rule, std::size_t entry, std::uint64_t number) const;
     std::vector<tree> rows(const std::vector<claim>& claims, std::size_t words);
 

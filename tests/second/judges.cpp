@@ -17,19 +17,23 @@ bool breaks_kind_table(words table) {
     for (std::size_t k = 0; k < table.size(); ++k) {
         const std::uint32_t kind = table[k] >> 16, left = table[k] >> 8 & 255, right = table[k] & 255;
         const bool left_earlier = left < k, right_earlier = right < k;
-        const bool fine[] = {left < 32 && right == 0, left_earlier && right == 0, left_earlier && right_earlier};
+        const bool fine[] = {left < 32 && right == 0, left_earlier && right == 0,
+                             left_earlier && right_earlier};
         if (kind > 5 || !fine[std::min(kind, 2u)]) return true;
     }
     return false;
 }
 
-// The most operators of one kind on a way down from an entry, by counting ways of each length until none is left.
+// The most operators of one kind on a way down from an entry, by counting ways
+// of each length until none is left.
 std::uint32_t height(words table, std::size_t entry, std::uint32_t counted) {
-    std::map<std::uint32_t, std::set<std::size_t>> at = {{0, {entry}}}; // entries reached with so many counted on the way
+    // Entries reached with so many counted on the way.
+    std::map<std::uint32_t, std::set<std::size_t>> at = {{0, {entry}}};
     std::uint32_t most = 0;
     for (std::uint32_t count = 0; at.contains(count); ++count) {
         most = count;
-        // Parts are smaller than what they are parts of, so falling order reaches each after all that reach it.
+        // Parts are smaller than what they are parts of, so falling order
+        // reaches each after all that reach it.
         for (std::set<std::size_t>& reached = at[count]; !reached.empty();) {
             const std::size_t k = *reached.rbegin();
             reached.erase(k);
@@ -49,7 +53,9 @@ bool too_high(words table) {
     return false;
 }
 
-bool short_lists(const test_case& c) { return c.prefix.size() + c.loop.size() <= 6 && c.table.size() <= 8 && c.position < 40; }
+bool short_lists(const test_case& c) {
+    return c.prefix.size() + c.loop.size() <= 6 && c.table.size() <= 8 && c.position < 40;
+}
 
 } // namespace
 
@@ -81,15 +87,18 @@ answer judged_answer(const test_case& c) {
     }
     if (c.work < 16384) numbers.insert(8);
     if (c.tree.size() > 4095) numbers.insert(10);
-    static const std::map<call, std::vector<std::uint32_t>> ORDER = {{call::truth, {1, 2, 3, 4, 5, 6, 7, 8}},
-                                                                     {call::find, {1, 2, 3, 4, 5, 6, 7, 8, 11}},
-                                                                     {call::write, {1, 2, 3, 4, 5, 6, 7, 8, 11, 12}},
-                                                                     {call::check, {1, 2, 3, 4, 5, 6, 7, 10, 9}}};
+    static const std::map<call, std::vector<std::uint32_t>> ORDER = {
+        {call::truth, {1, 2, 3, 4, 5, 6, 7, 8}},
+        {call::find, {1, 2, 3, 4, 5, 6, 7, 8, 11}},
+        {call::write, {1, 2, 3, 4, 5, 6, 7, 8, 11, 12}},
+        {call::check, {1, 2, 3, 4, 5, 6, 7, 10, 9}}};
     for (std::uint32_t number : ORDER.at(c.what))
         if (numbers.contains(number)) return {number, number == 9 ? std::uint32_t(*broken) : 0, 0, 0};
     std::uint32_t verdict = c.expected.verdict;
-    if (c.what == call::check) verdict = std::set<std::uint32_t>{1, 3, 5, 6, 8, 11, 14}.contains(c.tree[0] >> 24) ? 1 : 2;
-    else if (short_lists(c)) verdict = plain_meaning(c.prefix, c.loop, c.table).holds(c.entry, c.position) ? 1 : 2;
+    if (c.what == call::check)
+        verdict = std::set<std::uint32_t>{1, 3, 5, 6, 8, 11, 14}.contains(c.tree[0] >> 24) ? 1 : 2;
+    else if (short_lists(c))
+        verdict = plain_meaning(c.prefix, c.loop, c.table).holds(c.entry, c.position) ? 1 : 2;
     return {0, 0, verdict, std::uint32_t(size)};
 }
 
@@ -122,7 +131,8 @@ struct line_read {
     }
 
     bool is(const std::string& line, std::uint64_t greatest) const {
-        return printed == line && std::all_of(numbers.begin(), numbers.end(), [&](std::uint64_t n) { return n <= greatest; });
+        return printed == line &&
+               std::all_of(numbers.begin(), numbers.end(), [&](std::uint64_t n) { return n <= greatest; });
     }
 };
 
@@ -135,7 +145,10 @@ std::size_t first_wrong_line(std::string text, test_case& c) {
         if (end == text.npos) return number;
         const std::string line = text.substr(0, end);
         text.erase(0, end + 1);
-        const std::string name = number == 1 ? "prefix=" : number == 2 ? "loop=" : line.starts_with("entry=") ? "entry=" : "ask=";
+        const std::string name = number == 1                  ? "prefix="
+                                 : number == 2                ? "loop="
+                                 : line.starts_with("entry=") ? "entry="
+                                                              : "ask=";
         const line_read read(name, line);
         const std::size_t many = read.numbers.size();
         if (number <= 2) {
@@ -158,15 +171,18 @@ std::string judged_output(const std::string& text) {
     if (text.size() > 8192) return "refused=14\n";
     test_case c;
     c.what = call::write, c.work = 16384, c.room = 4095;
-    if (const std::size_t line = first_wrong_line(text, c)) return "refused=13\nline=" + std::to_string(line) + "\n";
+    if (const std::size_t line = first_wrong_line(text, c))
+        return "refused=13\nline=" + std::to_string(line) + "\n";
     std::vector<std::uint16_t> work(c.work);
     std::vector<std::uint32_t> tree(c.room);
     c.expected = write(c.prefix, c.loop, c.table, c.entry, c.position, work, tree);
     const answer a = judged_answer(c);
     if (a.number != 0) return "refused=" + std::to_string(a.number) + "\n";
-    std::string printed = std::string("verdict=") + (a.verdict == 1 ? "holds" : "violated") + "\nsize=" + std::to_string(a.size) + "\n";
+    std::string printed = std::string("verdict=") + (a.verdict == 1 ? "holds" : "violated") +
+                          "\nsize=" + std::to_string(a.size) + "\n";
     for (std::size_t k = 0; k < a.size; ++k)
-        printed += "node=" + std::to_string(tree[k] >> 24) + "," + std::to_string(tree[k] >> 16 & 255) + "," + std::to_string(tree[k] & 65535) + "\n";
+        printed += "node=" + std::to_string(tree[k] >> 24) + "," + std::to_string(tree[k] >> 16 & 255) + "," +
+                   std::to_string(tree[k] & 65535) + "\n";
     return printed;
 }
 

@@ -5,8 +5,9 @@
 
 namespace second {
 
-// The answer of a call on lists: all conditions of 01's table of refusals tested one by one, then the first in the call's order. The verdict is
-// only judged where the lists are short, and is otherwise taken from the case.
+// The answer of a call on lists: all conditions of 01's table of refusals tested one by one,
+// then the first in the call's order. The verdict is only judged where the lists are short, and
+// is otherwise taken from the case.
 answer judged_answer(const test_case& c);
 
 // The least size of a sound question, exact up to 6,000.

@@ -1,7 +1,9 @@
-// Literal minimising: sizes first, over all rules and counts; then the real word lists of the candidates of equal size.
+// Literal minimising: sizes first, over all rules and counts; then the real word lists
+// of the candidates of equal size.
 //
-// No count is left out for lying past a window. A list is given up at the first count after which the rule cannot be met any more, or once its
-// members alone cost as much as a tree already found, or as the limit; since every tree has a word at least, no greater count is then smaller.
+// No count is left out for lying past a window. A list is given up at the first count after which the rule
+// cannot be met any more, or once its members alone cost as much as a tree already found, or as the limit;
+// since every tree has a word at least, no greater count is then smaller.
 #include "least.hpp"
 
 #include <algorithm>
@@ -15,17 +17,20 @@ least::least(const setting& where, const meaning& truth, std::uint64_t limit)
 // Makes the cells of an entry up to a position, and half as many more.
 void least::extend(std::size_t entry, std::uint64_t position) {
     std::vector<cell>& row = cells[entry];
-    for (std::uint64_t k = row.size(), end = position + position / 2 + 16; k < end; ++k) row.push_back({truth.verdict(entry, k)});
+    for (std::uint64_t k = row.size(), end = position + position / 2 + 16; k < end; ++k)
+        row.push_back({truth.verdict(entry, k)});
 }
 
-// Calls visit(count, size) for each count with which rule 11, 12, 14 or 15 proves the entry; sizes above the bound may be left out. The bound may
-// fall meanwhile. All parts of these rules need the rule's own verdict.
+// Calls visit(count, size) for each count with which rule 11, 12, 14 or 15 proves the entry; sizes above the
+// bound may be left out. The bound may fall meanwhile. All parts of these rules need the rule's own verdict.
 template <class Visit>
-void least::growing(std::uint32_t rule, std::size_t entry, std::uint64_t i, const std::uint64_t& bound, Visit visit) {
+void least::growing(std::uint32_t rule, std::size_t entry, std::uint64_t i, const std::uint64_t& bound,
+                    Visit visit) {
     const entry_fields e = where.entries[entry];
     const std::uint32_t verdict = RULES[rule].verdict;
-    const bool back = rule == 11 || rule == 12;   // the list reaches back from i, else on from i
-    const bool beyond = rule == 11 || rule == 14; // the first part is right's, one place beyond the list; else left's, at the list's far end
+    const bool back = rule == 11 || rule == 12; // the list reaches back from i, else on from i
+    // The first part is right's, one place beyond the list; else left's, at the list's far end.
+    const bool beyond = rule == 11 || rule == 14;
     const std::size_t first = beyond ? e.right : e.left, list = beyond ? e.left : e.right;
     const std::uint64_t smallest = beyond ? 0 : 1, greatest = !back ? limit : beyond ? i : i + 1;
     std::uint64_t total = 1; // the node and the members so far
@@ -44,7 +49,8 @@ void least::growing(std::uint32_t rule, std::size_t entry, std::uint64_t i, cons
 }
 
 // The parts of a node in tree order.
-std::vector<least::part> least::parts(std::uint32_t rule, std::size_t entry, std::uint64_t i, std::uint64_t n) const {
+std::vector<least::part> least::parts(std::uint32_t rule, std::size_t entry, std::uint64_t i,
+                                      std::uint64_t n) const {
     const entry_fields e = where.entries[entry];
     std::vector<part> list;
     const auto run = [&](std::size_t which, std::uint64_t from, std::uint64_t count) {
@@ -64,8 +70,9 @@ std::vector<least::part> least::parts(std::uint32_t rule, std::size_t entry, std
     return list;
 }
 
-// Calls visit(root word, size) for each root word with which some tree proves the entry at the position, with the size of the smallest such
-// tree; sizes above the bound may be left out. Rules of both verdicts are tried.
+// Calls visit(root word, size) for each root word with which some tree proves the entry at the
+// position, with the size of the smallest such tree; sizes above the bound may be left out.
+// Rules of both verdicts are tried.
 template <class Visit>
 void least::candidates(std::size_t entry, std::uint64_t i, const std::uint64_t& bound, Visit visit) {
     const entry_fields e = where.entries[entry];
@@ -73,9 +80,12 @@ void least::candidates(std::size_t entry, std::uint64_t i, const std::uint64_t& 
         if (RULES[rule].kind != e.kind) continue;
         const std::uint32_t verdict = RULES[rule].verdict;
         if (rule <= 2) {
-            if (where.atom_holds(e.left, i) == (verdict == HOLDS)) visit(word_of({rule, e.left, std::uint32_t(i)}), 1);
+            if (where.atom_holds(e.left, i) == (verdict == HOLDS))
+                visit(word_of({rule, e.left, std::uint32_t(i)}), 1);
         } else if (rule == 11 || rule == 12 || rule == 14 || rule == 15) {
-            growing(rule, entry, i, bound, [&](std::uint64_t n, std::uint64_t size) { visit(word_of({rule, 0, std::uint32_t(n)}), size); });
+            growing(rule, entry, i, bound, [&](std::uint64_t n, std::uint64_t size) {
+                visit(word_of({rule, 0, std::uint32_t(n)}), size);
+            });
         } else {
             const std::uint64_t n = rule == 13 ? i + 1 : rule == 16 ? where.endless_count(entry, i) : 0;
             const std::uint32_t needed = rule <= 4 ? HOLDS + VIOLATED - verdict : verdict;
@@ -95,7 +105,8 @@ std::uint64_t least::search(std::size_t entry, std::uint64_t position) {
     const std::uint32_t verdict = at(entry, position).verdict;
     std::uint64_t best = limit + 1;
     candidates(entry, position, best, [&](std::uint32_t root, std::uint64_t size) {
-        if (RULES[node_of(root).rule].verdict != verdict) throw std::logic_error("a tree proves what is not true");
+        if (RULES[node_of(root).rule].verdict != verdict)
+            throw std::logic_error("a tree proves what is not true");
         best = std::min(best, size);
     });
     at(entry, position).size = std::uint32_t(best);

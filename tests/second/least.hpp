@@ -20,7 +20,8 @@ public:
     // The words of the least tree; only where the size is within the limit.
     const std::vector<std::uint32_t>& tree(std::size_t entry, std::uint64_t position);
 
-    // The root words of all trees of the least size, rules and counts rising; only where the size is within the limit.
+    // The root words of all trees of the least size, rules and counts rising; only
+    // where the size is within the limit.
     std::vector<std::uint32_t> roots(std::size_t entry, std::uint64_t position);
 
 private:
@@ -34,8 +35,11 @@ private:
         std::uint32_t size = 0; // 0 is not known yet
     };
 
-    template <class Visit> void candidates(std::size_t entry, std::uint64_t position, const std::uint64_t& bound, Visit visit);
-    template <class Visit> void growing(std::uint32_t rule, std::size_t entry, std::uint64_t position, const std::uint64_t& bound, Visit visit);
+    template <class Visit>
+    void candidates(std::size_t entry, std::uint64_t position, const std::uint64_t& bound, Visit visit);
+    template <class Visit>
+    void growing(std::uint32_t rule, std::size_t entry, std::uint64_t position, const std::uint64_t& bound,
+                 Visit visit);
 
     cell& at(std::size_t entry, std::uint64_t position) {
         if (position >= cells[entry].size()) extend(entry, position);
@@ -44,7 +48,8 @@ private:
 
     void extend(std::size_t entry, std::uint64_t position);
     std::uint64_t search(std::size_t entry, std::uint64_t position);
-    std::vector<part> parts(std::uint32_t rule, std::size_t entry, std::uint64_t position, std::uint64_t n) const;
+    std::vector<part> parts(std::uint32_t rule, std::size_t entry, std::uint64_t position,
+                            std::uint64_t n) const;
 
     const setting& where;
     const meaning& truth;

@@ -1,4 +1,5 @@
-// Truth by unrolling: since runs forward, until backward, each until its state comes again. No threshold of 01 is used.
+// Truth by unrolling: since runs forward, until backward, each until its state comes
+// again. No threshold of 01 is used.
 #include "meaning.hpp"
 
 #include <algorithm>
@@ -40,15 +41,18 @@ endless or_sequence(const endless& a, const endless& b) {
     const joint both(a, b);
     endless s;
     for (std::size_t k = 0; k < both.start; ++k) s.stem.push_back(a.at(k) || b.at(k));
-    for (std::size_t k = 0; k < both.period; ++k) s.again.push_back(a.at(both.start + k) || b.at(both.start + k));
+    for (std::size_t k = 0; k < both.period; ++k)
+        s.again.push_back(a.at(both.start + k) || b.at(both.start + k));
     return s;
 }
 
 // (a and b) is not (not a or not b).
-endless and_sequence(const endless& a, const endless& b) { return not_sequence(or_sequence(not_sequence(a), not_sequence(b))); }
+endless and_sequence(const endless& a, const endless& b) {
+    return not_sequence(or_sequence(not_sequence(a), not_sequence(b)));
+}
 
-// Forward from position 0. Past both stems all that is still to come hangs on the phase of the parts and on the last value; when that pair comes
-// a second time, what lay between the two comes again for ever.
+// Forward from position 0. Past both stems all that is still to come hangs on the phase of the parts and on
+// the last value; when that pair comes a second time, what lay between the two comes again for ever.
 endless since_sequence(const endless& a, const endless& b) {
     const joint both(a, b);
     std::vector<char> values;
@@ -67,8 +71,9 @@ endless since_sequence(const endless& a, const endless& b) {
     }
 }
 
-// Backward, lap by lap, from a far end behind which no witness has been seen. A lap that begins with the value that stood behind it would give
-// itself again, so every lap before it is the same; the stem follows from it.
+// Backward, lap by lap, from a far end behind which no witness has been seen. A lap that
+// begins with the value that stood behind it would give itself again, so every lap before it
+// is the same; the stem follows from it.
 endless until_sequence(const endless& a, const endless& b) {
     const joint both(a, b);
     endless s{std::vector<char>(both.start), std::vector<char>(both.period)};

@@ -22,7 +22,9 @@ public:
     explicit meaning(const setting& where);
 
     bool holds(std::size_t entry, std::uint64_t position) const { return sequences[entry].at(position); }
-    std::uint32_t verdict(std::size_t entry, std::uint64_t position) const { return holds(entry, position) ? HOLDS : VIOLATED; }
+    std::uint32_t verdict(std::size_t entry, std::uint64_t position) const {
+        return holds(entry, position) ? HOLDS : VIOLATED;
+    }
 
     // Does the entry get the verdict at some place from `position` on?
     bool comes(std::size_t entry, std::uint32_t verdict, std::uint64_t position) const {

@@ -1,4 +1,5 @@
-// The parts of the self test. Each throws `failure` at the first difference and returns the line of its counts.
+// The parts of the self test. Each throws `failure` at the first difference
+// and returns the line of its counts.
 #pragma once
 
 #include "cases.hpp"

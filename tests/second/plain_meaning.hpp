@@ -1,4 +1,5 @@
-// Truth by the definition's own words, an until looking for its place over a long but fixed stretch. For small inputs only.
+// Truth by the definition's own words, an until looking for its place over a long but
+// fixed stretch. For small inputs only.
 #pragma once
 
 #include "rules.hpp"
@@ -10,7 +11,8 @@ namespace second {
 class plain_meaning {
 public:
     // Twelve laps past the prefix: far more than any value of a small input waits for.
-    plain_meaning(words prefix, words loop, words table) : prefix(prefix), loop(loop), table(table), stretch(prefix.size() + 12 * loop.size()) {}
+    plain_meaning(words prefix, words loop, words table)
+        : prefix(prefix), loop(loop), table(table), stretch(prefix.size() + 12 * loop.size()) {}
 
     bool holds(std::size_t entry, std::uint64_t i) {
         const auto key = std::pair(entry, i);
@@ -26,13 +28,15 @@ private:
         case OR: return holds(e.left, i) || holds(e.right, i);
         case AND: return holds(e.left, i) && holds(e.right, i);
         case SINCE:
-            for (std::uint64_t j = i + 1; j-- > 0;) { // right at some j <= i, and left at all k with j < k <= i
+            // Right at some j <= i, and left at all k with j < k <= i.
+            for (std::uint64_t j = i + 1; j-- > 0;) {
                 if (holds(e.right, j)) return true;
                 if (!holds(e.left, j)) return false;
             }
             return false;
         default:
-            for (std::uint64_t j = i; j < i + stretch; ++j) { // right at some j >= i, and left at all k with i <= k < j
+            // Right at some j >= i, and left at all k with i <= k < j.
+            for (std::uint64_t j = i; j < i + stretch; ++j) {
                 if (holds(e.right, j)) return true;
                 if (!holds(e.left, j)) return false;
             }

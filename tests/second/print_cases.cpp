@@ -1,4 +1,5 @@
-// print_cases SEED COUNT [SHAPE]: random cases with the reference's answers, a line each, the same for the same arguments on every machine.
+// print_cases SEED COUNT [SHAPE]: random cases with the reference's answers, a line each, the same for the
+// same arguments on every machine.
 #include "shapes.hpp"
 
 #include <iostream>

@@ -22,7 +22,8 @@ std::vector<std::uint32_t> random_letters(random_source& r, std::size_t count, s
 }
 
 void random_schedule(test_case& c, random_source& r, std::size_t least_loop, std::size_t most_letters) {
-    const std::size_t all = r.between(least_loop, most_letters), loop = r.one_in(4) ? all : r.between(least_loop, all);
+    const std::size_t all = r.between(least_loop, most_letters);
+    const std::size_t loop = r.one_in(4) ? all : r.between(least_loop, all);
     const std::vector<std::uint32_t> both = random_letters(r, all, 3);
     c.prefix.assign(both.begin(), both.end() - std::ptrdiff_t(loop));
     c.loop.assign(both.end() - std::ptrdiff_t(loop), both.end());
@@ -44,7 +45,9 @@ std::vector<std::uint32_t> random_table(random_source& r, std::size_t entries, c
     for (std::size_t a = 0; a < atoms; ++a) t.add(entry_word(ATOM, a, 0));
     while (t.words.size() < entries) {
         const std::size_t k = t.words.size();
-        const auto part = [&] { return r.one_in(2) ? r.below(k) : k - 1 - r.below(std::min<std::uint64_t>(k, m.near)); };
+        const auto part = [&] {
+            return r.one_in(2) ? r.below(k) : k - 1 - r.below(std::min<std::uint64_t>(k, m.near));
+        };
         const std::uint64_t kind = r.pick(m.kinds), left = part();
         t.add(entry_word(kind, left, kind == NOT ? 0 : part()));
         if (t.heights(k) > MAX_HEIGHTS) t.drop();
@@ -55,7 +58,9 @@ std::vector<std::uint32_t> random_table(random_source& r, std::size_t entries, c
 void random_ask(test_case& c, random_source& r) {
     const std::size_t last = c.table.size() - 1;
     c.entry = r.one_in(2) ? last : r.below(last + 1);
-    c.position = r.one_in(3) ? r.below(256) : r.one_in(2) ? r.below(8) : r.below(c.prefix.size() + 2 * c.loop.size() + 1) % 256;
+    c.position = r.one_in(3)   ? r.below(256)
+                 : r.one_in(2) ? r.below(8)
+                               : r.below(c.prefix.size() + 2 * c.loop.size() + 1) % 256;
     c.what = call(r.below(3));
     c.work = MIN_WORK;
     c.room = MAX_TREE;
@@ -92,7 +97,8 @@ void other_atoms(test_case& c, random_source& r) {
 
 } // namespace
 
-void random_question(test_case& c, random_source& r, std::size_t most_letters, std::size_t most_entries, const mixture& m) {
+void random_question(test_case& c, random_source& r, std::size_t most_letters, std::size_t most_entries,
+                     const mixture& m) {
     random_schedule(c, r, 1, most_letters);
     c.table = random_table(r, r.between(1, most_entries), m);
     if (r.one_in(3)) random_ask(c, r);

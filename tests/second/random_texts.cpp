@@ -23,7 +23,9 @@ std::vector<std::size_t> starts(const std::string& text, bool lines) {
     return found;
 }
 
-std::size_t line_end(const std::string& text, std::size_t from) { return std::min(text.find('\n', from), text.size() - 1) + 1; }
+std::size_t line_end(const std::string& text, std::size_t from) {
+    return std::min(text.find('\n', from), text.size() - 1) + 1;
+}
 
 } // namespace
 
@@ -31,15 +33,17 @@ std::string text_of_question(const test_case& c) {
     std::string s = "prefix=" + list_text(c.prefix) + "\nloop=" + list_text(c.loop) + "\n";
     for (std::uint32_t word : c.table) {
         const entry_fields e = entry_of(word);
-        s += "entry=" + std::to_string(e.kind) + "," + std::to_string(e.left) + "," + std::to_string(e.right) + "\n";
+        s += "entry=" + std::to_string(e.kind) + "," + std::to_string(e.left) + "," +
+             std::to_string(e.right) + "\n";
     }
     return s + "ask=" + std::to_string(c.entry) + "," + std::to_string(c.position) + "\n";
 }
 
 void damage_text(std::string& text, random_source& r) {
     static const std::string BYTES("0123456789,=\n\r\t +-.xAE\0\x80", 24);
-    static const std::vector<std::string> NUMBERS = {"", "0", "00", "01", "255", "256", "65535", "65536", "4294967295", "4294967296",
-                                                     "18446744073709551616", "99999999999999999999999999999999"};
+    static const std::vector<std::string> NUMBERS = {
+        "",           "0",          "00",                   "01",  "255", "256", "65535", "65536",
+        "4294967295", "4294967296", "18446744073709551616", "99999999999999999999999999999999"};
     if (text.empty()) return;
     const std::size_t at = r.below(text.size());
     const std::vector<std::size_t> numbers = starts(text, false), lines = starts(text, true);
@@ -62,11 +66,13 @@ void damage_text(std::string& text, random_source& r) {
     case 9:
         if (!numbers.empty()) {
             const std::size_t from = r.pick(numbers);
-            text.replace(from, std::min(text.find_first_of(",\n", from), text.size()) - from, r.pick(NUMBERS));
+            const std::size_t end = std::min(text.find_first_of(",\n", from), text.size());
+            text.replace(from, end - from, r.pick(NUMBERS));
         }
         break;
     case 10: // letters put before those of the first line, until the whole has 8,190 to 8,194 bytes
-        if (const std::size_t missing = r.between(8190, 8194) - std::min<std::size_t>(text.size(), 8190); missing > 2) {
+        if (const std::size_t missing = r.between(8190, 8194) - std::min<std::size_t>(text.size(), 8190);
+            missing > 2) {
             std::string letters = missing % 2 == 0 ? "" : "10,";
             while (letters.size() < missing) letters += "0,";
             text.insert(std::min(text.find('='), text.size() - 1) + 1, letters);

@@ -18,7 +18,8 @@ public:
         const entry_fields e = where.entries[entry];
         const std::vector<node_fields> roots = roots_of(entry, i);
         // Small counts are listed first: half of the time one of these.
-        const node_fields root = roots[r.one_in(2) ? r.below(roots.size()) : r.below(std::min<std::size_t>(roots.size(), 2))];
+        const node_fields root = roots[r.one_in(2) ? r.below(roots.size())
+                                                   : r.below(std::min<std::size_t>(roots.size(), 2))];
         tree.push_back(word_of(root));
         if (tree.size() > MAX_TREE) return false;
         const std::uint64_t n = root.number;
@@ -43,7 +44,8 @@ private:
         return true;
     }
 
-    // All root words that can be met, counts up to a few laps beyond everything that can matter to a least tree.
+    // All root words that can be met, counts up to a few laps beyond everything
+    // that can matter to a least tree.
     std::vector<node_fields> roots_of(std::size_t entry, std::uint64_t i) const {
         const entry_fields e = where.entries[entry];
         const bool holds = truth.holds(entry, i);
@@ -51,7 +53,9 @@ private:
         const auto right = [&](std::uint64_t k) { return truth.holds(e.right, k); };
         const std::uint64_t reach = i + where.prefix.size() + 9 * where.loop.size() + 3;
         std::vector<node_fields> roots;
-        const auto add = [&](std::uint32_t rule, std::uint64_t n) { roots.push_back({rule, 0, std::uint32_t(n)}); };
+        const auto add = [&](std::uint32_t rule, std::uint64_t n) {
+            roots.push_back({rule, 0, std::uint32_t(n)});
+        };
         switch (e.kind) {
         case ATOM: roots.push_back({holds ? 1u : 2u, e.left, std::uint32_t(i)}); break;
         case NOT: add(holds ? 3 : 4, 0); break;
@@ -104,7 +108,8 @@ std::vector<std::uint32_t> random_tree(const test_case& c, random_source& r) {
         if (g.grow(c.entry, c.position)) return g.tree;
     }
     least best(where, truth);
-    return best.size(c.entry, c.position) <= MAX_TREE ? best.tree(c.entry, c.position) : std::vector<std::uint32_t>(MAX_TREE);
+    return best.size(c.entry, c.position) <= MAX_TREE ? best.tree(c.entry, c.position)
+                                                      : std::vector<std::uint32_t>(MAX_TREE);
 }
 
 void damage_tree(std::vector<std::uint32_t>& tree, std::size_t loop, random_source& r) {
@@ -129,7 +134,10 @@ void damage_tree(std::vector<std::uint32_t>& tree, std::size_t loop, random_sour
     case 11: node.number += 1; put(); break;
     case 12: node.number += 65535; put(); break; // one less
     case 13: node.number += std::uint32_t(loop); put(); break;
-    case 14: node.number = std::uint32_t(r.pick({0, 1, 255, 4094, 4095, 65535, r.below(65536)})); put(); break;
+    case 14:
+        node.number = std::uint32_t(r.pick({0, 1, 255, 4094, 4095, 65535, r.below(65536)}));
+        put();
+        break;
     }
 }
 

@@ -37,7 +37,8 @@ std::uint32_t engine::asked_refusal(std::size_t entry, std::size_t position) con
     return 0;
 }
 
-std::uint32_t engine::lent_refusal(std::size_t entry, std::size_t position, std::span<std::uint16_t> work) const {
+std::uint32_t engine::lent_refusal(std::size_t entry, std::size_t position,
+                                   std::span<std::uint16_t> work) const {
     if (const std::uint32_t number = asked_refusal(entry, position)) return number;
     return work.size() < MIN_WORK ? 8 : 0;
 }
@@ -62,7 +63,8 @@ answer engine::find(std::size_t entry, std::size_t position, std::span<std::uint
     return {0, 0, in->meant().verdict(entry, position), std::uint32_t(size)};
 }
 
-answer engine::write(std::size_t entry, std::size_t position, std::span<std::uint16_t> work, std::span<std::uint32_t> tree) {
+answer engine::write(std::size_t entry, std::size_t position, std::span<std::uint16_t> work,
+                     std::span<std::uint32_t> tree) {
     const answer found = find(entry, position, work);
     if (found.number != 0) return found;
     if (tree.size() < found.size) return {12};
@@ -78,16 +80,18 @@ answer engine::check(std::size_t entry, std::size_t position, words tree) const 
     return end.verdict != 0 ? answer{0, 0, end.verdict, 0} : answer{9, end.place, 0, 0};
 }
 
-answer truth(words prefix, words loop, words table, std::size_t entry, std::size_t position, std::span<std::uint16_t> work) {
+answer truth(words prefix, words loop, words table, std::size_t entry, std::size_t position,
+             std::span<std::uint16_t> work) {
     return engine(prefix, loop, table).truth(entry, position, work);
 }
 
-answer find(words prefix, words loop, words table, std::size_t entry, std::size_t position, std::span<std::uint16_t> work) {
+answer find(words prefix, words loop, words table, std::size_t entry, std::size_t position,
+            std::span<std::uint16_t> work) {
     return engine(prefix, loop, table).find(entry, position, work);
 }
 
-answer write(words prefix, words loop, words table, std::size_t entry, std::size_t position, std::span<std::uint16_t> work,
-             std::span<std::uint32_t> tree) {
+answer write(words prefix, words loop, words table, std::size_t entry, std::size_t position,
+             std::span<std::uint16_t> work, std::span<std::uint32_t> tree) {
     return engine(prefix, loop, table).write(entry, position, work, tree);
 }
 

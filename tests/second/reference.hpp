@@ -1,4 +1,5 @@
-// The second program: every answer of document 01, worked out another way than the proved program works it out.
+// The second program: every answer of document 01, worked out another way than
+// the proved program works it out.
 #pragma once
 
 #include "rules.hpp"
@@ -14,7 +15,8 @@ struct answer {
     bool operator==(const answer&) const = default;
 };
 
-// One schedule and one table for many calls: what was worked out for one call is kept for the next. It keeps copies of the lists.
+// One schedule and one table for many calls: what was worked out for one call is kept for the
+// next. It keeps copies of the lists.
 class engine {
 public:
     engine(words prefix, words loop, words table);
@@ -22,7 +24,8 @@ public:
 
     answer truth(std::size_t entry, std::size_t position, std::span<std::uint16_t> work);
     answer find(std::size_t entry, std::size_t position, std::span<std::uint16_t> work);
-    answer write(std::size_t entry, std::size_t position, std::span<std::uint16_t> work, std::span<std::uint32_t> tree);
+    answer write(std::size_t entry, std::size_t position, std::span<std::uint16_t> work,
+                 std::span<std::uint32_t> tree);
     answer check(std::size_t entry, std::size_t position, words tree) const;
 
 private:
@@ -35,10 +38,12 @@ private:
 };
 
 // The calls of the C interface, in its order of parameters. The view is declared in rules.hpp.
-answer truth(words prefix, words loop, words table, std::size_t entry, std::size_t position, std::span<std::uint16_t> work);
-answer find(words prefix, words loop, words table, std::size_t entry, std::size_t position, std::span<std::uint16_t> work);
-answer write(words prefix, words loop, words table, std::size_t entry, std::size_t position, std::span<std::uint16_t> work,
-             std::span<std::uint32_t> tree);
+answer truth(words prefix, words loop, words table, std::size_t entry, std::size_t position,
+             std::span<std::uint16_t> work);
+answer find(words prefix, words loop, words table, std::size_t entry, std::size_t position,
+            std::span<std::uint16_t> work);
+answer write(words prefix, words loop, words table, std::size_t entry, std::size_t position,
+             std::span<std::uint16_t> work, std::span<std::uint32_t> tree);
 answer check(words prefix, words loop, words table, std::size_t entry, std::size_t position, words tree);
 
 // The text program: standard input as bytes, standard output as bytes.

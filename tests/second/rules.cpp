@@ -32,7 +32,8 @@ bool fits_kind_table(entry_fields e, std::size_t index) {
     }
 }
 
-// The number of nested operators of one kind in each entry. Parts have smaller indices, so they are worked out before they are asked for.
+// The number of nested operators of one kind in each entry. Parts have smaller indices, so they are
+// worked out before they are asked for.
 std::vector<std::uint32_t> heights(const std::vector<entry_fields>& entries, std::uint32_t counted) {
     std::vector<std::uint32_t> height;
     for (entry_fields e : entries) {

@@ -29,9 +29,13 @@ struct node_fields {
     std::uint32_t rule, atom, number;
 };
 
-constexpr node_fields node_of(std::uint32_t word) { return {word / 16777216, word / 65536 % 256, word % 65536}; }
+constexpr node_fields node_of(std::uint32_t word) {
+    return {word / 16777216, word / 65536 % 256, word % 65536};
+}
 
-constexpr std::uint32_t word_of(node_fields node) { return node.rule * 16777216 + node.atom * 65536 + node.number; }
+constexpr std::uint32_t word_of(node_fields node) {
+    return node.rule * 16777216 + node.atom * 65536 + node.number;
+}
 
 // The kind that a rule proves something of, and the verdict it proves. Index 0 is no rule.
 struct rule_row {

@@ -16,13 +16,16 @@ public:
 
     std::span<Number> lent() { return std::span(cells).subspan(GUARD, cells.size() - 2 * GUARD); }
 
-    // The first cell that is not as it should be, in words: `front` at the beginning of what was lent, junk in all other places.
+    // The first cell that is not as it should be, in words: `front` at the beginning of what
+    // was lent, junk in all other places.
     std::string unlike(std::span<const Number> front) const {
         for (std::size_t k = 0; k < cells.size(); ++k) {
             const bool in_front = k >= GUARD && k - GUARD < front.size();
             const Number should = in_front ? front[k - GUARD] : found(k);
             const std::int64_t cell = std::int64_t(k) - std::int64_t(GUARD);
-            if (cells[k] != should) return "cell " + std::to_string(cell) + " is " + std::to_string(cells[k]) + ", not " + std::to_string(should);
+            if (cells[k] != should)
+                return "cell " + std::to_string(cell) + " is " + std::to_string(cells[k]) + ", not " +
+                       std::to_string(should);
         }
         return {};
     }
@@ -49,9 +52,11 @@ std::string lent_difference(const test_case& c, const program& p, std::uint32_t 
     buffer<std::uint32_t> tree(c.room, ~junk);
     const answer got = c.what == call::write
                            ? p.write(c.prefix, c.loop, c.table, c.entry, c.position, work.lent(), tree.lent())
-                           : (c.what == call::find ? p.find : p.truth)(c.prefix, c.loop, c.table, c.entry, c.position, work.lent());
+                           : (c.what == call::find ? p.find : p.truth)(c.prefix, c.loop, c.table, c.entry,
+                                                                       c.position, work.lent());
     if (const std::string d = differing(got, c.expected); !d.empty()) return d;
-    if (const std::string d = work.unlike(clears_work(c.expected) ? std::span(zeros) : std::span(zeros).first(0)); !d.empty()) return "work: " + d;
+    const auto cleared = std::span(zeros).first(clears_work(c.expected) ? zeros.size() : 0);
+    if (const std::string d = work.unlike(cleared); !d.empty()) return "work: " + d;
     if (const std::string d = tree.unlike(c.written); !d.empty()) return "tree: " + d;
     return {};
 }
@@ -84,7 +89,8 @@ bool program::offers(call what) const {
 
 std::string difference(const test_case& c, const program& p, std::uint32_t junk) try {
     switch (c.what) {
-    case call::check: return differing(p.check(c.prefix, c.loop, c.table, c.entry, c.position, c.tree), c.expected);
+    case call::check:
+        return differing(p.check(c.prefix, c.loop, c.table, c.entry, c.position, c.tree), c.expected);
     case call::view: return view_difference(c, p);
     case call::explain: return text_difference(c, p);
     default: return lent_difference(c, p, junk);

@@ -38,10 +38,12 @@ void heights_exactly(test_case& c, random_source& r, std::size_t heights) {
     if (r.one_in(4)) c.entry = r.below(40);
 }
 
-// The dearest inputs: 48 letters, 32 entries with as many operators of time as the heights allow, often at the last position.
+// The dearest inputs: 48 letters, 32 entries with as many operators of time as the heights
+// allow, often at the last position.
 void full(test_case& c, random_source& r) {
     random_schedule(c, r, 1, MAX_LETTERS);
-    while (c.prefix.size() + c.loop.size() < MAX_LETTERS) (r.one_in(2) ? c.prefix : c.loop).push_back(std::uint32_t(r.below(8)));
+    while (c.prefix.size() + c.loop.size() < MAX_LETTERS)
+        (r.one_in(2) ? c.prefix : c.loop).push_back(std::uint32_t(r.below(8)));
     c.table = random_table(r, MAX_ENTRIES, r.one_in(2) ? ALL : r.one_in(2) ? PAST : FUTURE);
     demanding_ask(c, r);
     if (r.one_in(2)) c.position = MAX_POSITION;
@@ -60,32 +62,38 @@ void demanding(test_case& c, random_source& r) {
     }
 }
 
-// Least sizes round 4,095. An odd size s comes from or(x, x) violated with x of (s - 1) / 2, an even one from and(x, x) violated with x of s - 1;
-// with the loop's atom set instead, the same with or and and changed about, holding.
+// Least sizes round 4,095. An odd size s comes from or(x, x) violated with x of (s - 1) / 2, an
+// even one from and(x, x) violated with x of s - 1; with the loop's atom set instead, the same with
+// or and and changed about, holding.
 void size_by_halving(test_case& c, random_source& r) {
     const bool holds = r.one_in(2);
     std::vector<std::uint64_t> kinds;
-    for (std::uint64_t size = r.one_in(3) ? r.pick({4095, 4096}) : r.between(4080, 4110); size > 1; size = size % 2 ? (size - 1) / 2 : size - 1)
+    for (std::uint64_t size = r.one_in(3) ? r.pick({4095, 4096}) : r.between(4080, 4110); size > 1;
+         size = size % 2 ? (size - 1) / 2 : size - 1)
         kinds.push_back((size % 2 == 1) == holds ? AND : OR);
     c.loop = {holds ? 1u : 0u};
     c.table = {entry_word(ATOM, 0, 0)};
-    for (std::size_t k = kinds.size(); k-- > 0;) c.table.push_back(entry_word(kinds[k], c.table.size() - 1, c.table.size() - 1));
+    for (std::size_t k = kinds.size(); k-- > 0;)
+        c.table.push_back(entry_word(kinds[k], c.table.size() - 1, c.table.size() - 1));
     random_ask(c, r);
     c.entry = c.table.size() - 1;
 }
 
-// The same by lists: rule 13 at about 253 under four ors, and three untils, one in the other, on loops of about 15.
+// The same by lists: rule 13 at about 253 under four ors, and three untils, one in
+// the other, on loops of about 15.
 void size_by_lists(test_case& c, random_source& r) {
     if (r.one_in(2)) {
         c.loop = {1};
-        c.table = {entry_word(ATOM, 0, 0), entry_word(ATOM, 1, 0), entry_word(SINCE, 0, 1), entry_word(OR, 2, 2), entry_word(OR, 3, 3),
-                   entry_word(OR, 4, 4),   entry_word(OR, 5, 5)};
+        c.table = {entry_word(ATOM, 0, 0), entry_word(ATOM, 1, 0), entry_word(SINCE, 0, 1),
+                   entry_word(OR, 2, 2),   entry_word(OR, 3, 3),   entry_word(OR, 4, 4),
+                   entry_word(OR, 5, 5)};
         random_ask(c, r);
         c.position = r.between(250, 255);
     } else {
         c.prefix.assign(r.below(3), 1);
         c.loop.assign(r.between(13, 17), 1);
-        c.table = {entry_word(ATOM, 0, 0), entry_word(ATOM, 1, 0), entry_word(UNTIL, 0, 1), entry_word(UNTIL, 0, 2), entry_word(UNTIL, 0, 3)};
+        c.table = {entry_word(ATOM, 0, 0), entry_word(ATOM, 1, 0), entry_word(UNTIL, 0, 1),
+                   entry_word(UNTIL, 0, 2), entry_word(UNTIL, 0, 3)};
         random_ask(c, r);
     }
     c.entry = c.table.size() - 1;
@@ -93,7 +101,8 @@ void size_by_lists(test_case& c, random_source& r) {
 
 void far_position(test_case& c, random_source& r) {
     random_question(c, r, 8, 8, ALL);
-    c.position = r.pick({255, 256, 257, 511, 512, 65535, 65536, 4294967295, 4294967296, 4294967296 + r.below(256), UINT64_MAX - 1, UINT64_MAX});
+    c.position = r.pick({255, 256, 257, 511, 512, 65535, 65536, 4294967295, 4294967296,
+                         4294967296 + r.below(256), UINT64_MAX - 1, UINT64_MAX});
 }
 
 void letters_at_the_edge(test_case& c, random_source& r) {
@@ -155,7 +164,8 @@ void several_wrong(test_case& c, random_source& r) {
         case 3: if (!c.table.empty()) damage_table(c, r); break;
         case 4:
             c.table = {entry_word(ATOM, 0, 0)};
-            for (std::size_t k = 0; k < 6; ++k) c.table.push_back(entry_word(r.one_in(2) ? SINCE : UNTIL, k, k));
+            for (std::size_t k = 0; k < 6; ++k)
+                c.table.push_back(entry_word(r.one_in(2) ? SINCE : UNTIL, k, k));
             break;
         case 5: c.entry = r.between(30, 40); break;
         case 6: c.position = r.between(255, 300); break;
@@ -191,7 +201,8 @@ void tree_of_another_place(test_case& c, random_source& r) {
 void random_words(test_case& c, random_source& r) {
     tree_question(c, r);
     for (std::uint64_t left = r.below(6); left > 0; --left) {
-        const node_fields likely{std::uint32_t(r.between(1, 16)), r.one_in(3) ? 1u : 0u, std::uint32_t(r.below(3))};
+        const node_fields likely{std::uint32_t(r.between(1, 16)), r.one_in(3) ? 1u : 0u,
+                                 std::uint32_t(r.below(3))};
         c.tree.push_back(r.one_in(4) ? std::uint32_t(r.next()) : word_of(likely));
     }
 }
@@ -252,7 +263,8 @@ const std::vector<std::pair<std::string, maker>> SHAPES = {
     {"past", [](test_case& c, random_source& r) { random_question(c, r, 16, 12, PAST); }},
     {"future", [](test_case& c, random_source& r) { random_question(c, r, 16, 12, FUTURE); }},
     {"shared", [](test_case& c, random_source& r) { random_question(c, r, 4, 8, SHARED); }},
-    {"loop-of-one", [](test_case& c, random_source& r) { random_question(c, r, 8, 12, ALL); c.loop.resize(1); }},
+    {"loop-of-one",
+     [](test_case& c, random_source& r) { random_question(c, r, 8, 12, ALL); c.loop.resize(1); }},
     {"not-chain", [](test_case& c, random_source& r) { chain(c, r, NOT, 1); }},
     {"and-chain", [](test_case& c, random_source& r) { chain(c, r, r.one_in(2) ? AND : OR, 2); }},
     {"doubling-chain", [](test_case& c, random_source& r) { chain(c, r, r.one_in(2) ? AND : OR, 1); }},
@@ -309,7 +321,9 @@ void answer_case(test_case& c) {
         c.first = std::size_t(part.data() - (c.of_loop ? c.loop : c.prefix).data()), c.count = part.size();
         break;
     }
-    case call::explain: c.output = explain({reinterpret_cast<const std::uint8_t*>(c.text.data()), c.text.size()}); break;
+    case call::explain:
+        c.output = explain({reinterpret_cast<const std::uint8_t*>(c.text.data()), c.text.size()});
+        break;
     default: {
         engine e(c.prefix, c.loop, c.table);
         answer_case(c, e);

@@ -3,7 +3,8 @@
 
 namespace second {
 
-tally::tally(std::string part, const std::vector<std::string>& must, const std::set<std::uint32_t>& numbers, const std::set<std::uint32_t>& rules)
+tally::tally(std::string part, const std::vector<std::string>& must, const std::set<std::uint32_t>& numbers,
+             const std::set<std::uint32_t>& rules)
     : part(std::move(part)) {
     for (const std::string& name : must) names[name] = 0;
     for (std::uint32_t number : numbers) refusals[number] = 0;

@@ -1,4 +1,5 @@
-// What a part of the self test has met: names with counts, refusal numbers, root rules. A name that was never met is a failure.
+// What a part of the self test has met: names with counts, refusal numbers, root rules. A name
+// that was never met is a failure.
 #pragma once
 
 #include "rules.hpp"
@@ -21,7 +22,8 @@ struct failure : std::runtime_error {
 class tally {
 public:
     // `must` are the names, numbers and rules that the part has to meet.
-    tally(std::string part, const std::vector<std::string>& must, const std::set<std::uint32_t>& refusals, const std::set<std::uint32_t>& rules);
+    tally(std::string part, const std::vector<std::string>& must, const std::set<std::uint32_t>& refusals,
+          const std::set<std::uint32_t>& rules);
 
     void met(const std::string& name, std::uint64_t times = 1) { names[name] += times; }
     void met_refusal(std::uint32_t number) { if (number != 0) ++refusals[number]; }

@@ -1,4 +1,5 @@
-// Tiny inputs: the least tree word for word, one verdict, exactly the listed trees accepted, and the place of every refusal.
+// Tiny inputs: the least tree word for word, one verdict, exactly the listed trees
+// accepted, and the place of every refusal.
 #include "parts.hpp"
 
 #include "enumerate.hpp"
@@ -14,7 +15,8 @@ constexpr std::size_t MOST_WORDS = 22, MORE_SIZES = 6, ENOUGH_TREES = 400, DAMAG
 
 using letters = std::vector<std::uint32_t>;
 
-test_case question(letters prefix, letters loop, std::vector<std::uint32_t> table, std::size_t entry, std::size_t position) {
+test_case question(letters prefix, letters loop, std::vector<std::uint32_t> table, std::size_t entry,
+                   std::size_t position) {
     test_case c;
     c.prefix = std::move(prefix), c.loop = std::move(loop), c.table = std::move(table);
     c.entry = entry, c.position = position, c.work = MIN_WORK, c.room = MAX_TREE;
@@ -24,7 +26,8 @@ test_case question(letters prefix, letters loop, std::vector<std::uint32_t> tabl
 class confirmation {
 public:
     confirmation(const test_case& asked, tally& t)
-        : c(asked), t(t), reference(c.prefix, c.loop, c.table), all(c.prefix, c.loop, c.table), work(MIN_WORK) {}
+        : c(asked), t(t), reference(c.prefix, c.loop, c.table), all(c.prefix, c.loop, c.table),
+          work(MIN_WORK) {}
 
     void run(random_source& r) {
         list_trees();
@@ -70,7 +73,8 @@ private:
         compare();
         t.met_root(trees[0][0]);
         const std::uint32_t right = entry_of(c.table[c.entry]).right;
-        if (node_of(trees[0][0]).rule == 16 && setting_of(c.prefix, c.loop, c.table).past[right] > 0) t.met("least trees by rule 16 over a past");
+        if (node_of(trees[0][0]).rule == 16 && setting_of(c.prefix, c.loop, c.table).past[right] > 0)
+            t.met("least trees by rule 16 over a past");
         if (trees.size() > 1 && trees[1].size() == fewest) t.met("ties");
         c.written.clear();
     }
@@ -117,7 +121,9 @@ private:
         fail(e.what());
     }
 
-    [[noreturn]] void fail(const std::string& what) const { throw failure("listed trees say:\n" + line_of(c) + "\nthe reference: " + what); }
+    [[noreturn]] void fail(const std::string& what) const {
+        throw failure("listed trees say:\n" + line_of(c) + "\nthe reference: " + what);
+    }
 
     test_case c;
     tally& t;
@@ -129,7 +135,8 @@ private:
     std::uint32_t verdict = 0;
 };
 
-// Every table of two atoms and one operator, on every schedule of at most one letter and a loop of at most two, at positions 0 to 3.
+// Every table of two atoms and one operator, on every schedule of at most one letter and a loop of
+// at most two, at positions 0 to 3.
 void systematic(tally& t, random_source& r) {
     std::vector<std::vector<std::uint32_t>> tables = {{0, 256, NOT * 65536}};
     for (std::uint32_t kind : {OR, AND, SINCE, UNTIL})
@@ -140,7 +147,8 @@ void systematic(tally& t, random_source& r) {
         if (before < 4) prefix = {before};
         if (second < 4) loop.push_back(second);
         for (const auto& table : tables)
-            for (std::size_t position = 0; position < 4; ++position) confirmation(question(prefix, loop, table, 2, position), t).run(r);
+            for (std::size_t position = 0; position < 4; ++position)
+                confirmation(question(prefix, loop, table, 2, position), t).run(r);
     }
 }
 
@@ -157,8 +165,9 @@ void random(tally& t, random_source& r, std::size_t inputs) {
 
 std::string test_enumerated(random_source r) {
     tally t("listed trees",
-            {"inputs", "inputs with trees of other sizes", "ties", "least trees by rule 16 over a past", "trees accepted", "damaged trees still valid",
-             "damaged trees that lack words", "damaged trees refused at the root", "damaged trees refused inside"},
+            {"inputs", "inputs with trees of other sizes", "ties", "least trees by rule 16 over a past",
+             "trees accepted", "damaged trees still valid", "damaged trees that lack words",
+             "damaged trees refused at the root", "damaged trees refused inside"},
             {9}, {1, 2, 3, 4, 5, 6, 7, 8, 9, 10, 11, 12, 13, 14, 15, 16});
     systematic(t, r);
     random(t, r, 24000);
@@ -170,7 +179,8 @@ namespace {
 // All lists of up to four words over the words of the question's own trees and some that belong nowhere.
 class short_lists {
 public:
-    short_lists(const test_case& asked, tally& t) : c(asked), t(t), reference(c.prefix, c.loop, c.table), all(c.prefix, c.loop, c.table) {
+    short_lists(const test_case& asked, tally& t)
+        : c(asked), t(t), reference(c.prefix, c.loop, c.table), all(c.prefix, c.loop, c.table) {
         std::set<std::uint32_t> all_words = {0, word_of({5, 0, 1}), word_of({14, 0, 1}), word_of({17, 0, 0})};
         for (std::size_t words = 1; words <= 4; ++words)
             for (bool holding : {false, true})
@@ -225,8 +235,10 @@ private:
 
 std::string test_short_lists() {
     tally t("all short lists", {"questions", "lists", "accepted", "refused"}, {}, {});
-    const auto ask = [&](const letters& prefix, const letters& loop, const std::vector<std::uint32_t>& table) {
-        for (std::size_t position = 0; position < 2; ++position) short_lists(question(prefix, loop, table, table.size() - 1, position), t).run();
+    const auto ask = [&](const letters& prefix, const letters& loop,
+                         const std::vector<std::uint32_t>& table) {
+        for (std::size_t position = 0; position < 2; ++position)
+            short_lists(question(prefix, loop, table, table.size() - 1, position), t).run();
         t.met("questions", 2);
     };
     for (std::uint32_t letter = 0; letter < 4; ++letter) {

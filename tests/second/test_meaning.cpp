@@ -7,7 +7,9 @@
 namespace second {
 
 std::string test_meaning(random_source r) {
-    tally t("meaning", {"inputs", "holds", "violated", "until holds", "until violated", "since holds", "since violated"}, {}, {});
+    tally t("meaning",
+            {"inputs", "holds", "violated", "until holds", "until violated", "since holds", "since violated"},
+            {}, {});
     std::vector<std::uint16_t> work(MIN_WORK);
     for (int k = 0; k < 6000; ++k) {
         random_source own(r.next());
@@ -18,7 +20,8 @@ std::string test_meaning(random_source r) {
         for (c.entry = 0; c.entry < c.table.size(); ++c.entry)
             for (c.position = 0; c.position < 30; c.position += own.between(1, 4)) {
                 c.expected = {0, 0, plain.holds(c.entry, c.position) ? HOLDS : VIOLATED, 0};
-                if (e.truth(c.entry, c.position, work) != c.expected) throw failure("the definition's words say:\n" + line_of(c));
+                if (e.truth(c.entry, c.position, work) != c.expected)
+                    throw failure("the definition's words say:\n" + line_of(c));
                 const std::uint32_t kind = entry_of(c.table[c.entry]).kind;
                 const std::string verdict = c.expected.verdict == HOLDS ? "holds" : "violated";
                 t.met(verdict);

@@ -23,17 +23,20 @@ void judge(const test_case& c, tally& t) {
     }
     if (c.what == call::view) {
         const words list = c.position < c.prefix.size() ? c.prefix : c.loop;
-        if (c.first != judged_first(c) || c.count != list.size() - c.first) fail("the view's judge begins at " + std::to_string(judged_first(c)));
+        if (c.first != judged_first(c) || c.count != list.size() - c.first)
+            fail("the view's judge begins at " + std::to_string(judged_first(c)));
         return;
     }
     const answer a = judged_answer(c);
     if (a != c.expected) fail("the judge says " + text_of(a));
     t.met_refusal(a.number);
     if (c.what == call::write && a.number == 0) {
-        if (enumerator(c.prefix, c.loop, c.table).break_of(c.entry, c.position, c.written)) fail("the words written are no tree");
+        if (enumerator(c.prefix, c.loop, c.table).break_of(c.entry, c.position, c.written))
+            fail("the words written are no tree");
         t.met_root(c.written[0]);
     }
-    if (c.what == call::check && a.number == 0) t.met(c.tree.size() > 4000 ? "trees accepted, over 4,000 words" : "trees accepted, smaller");
+    if (c.what == call::check && a.number == 0)
+        t.met(c.tree.size() > 4000 ? "trees accepted, over 4,000 words" : "trees accepted, smaller");
     if (a.size == 4095) t.met("least size 4,095");
     if (a.number == 11 && exact_size(c) == 4096) t.met("least size 4,096");
 }
@@ -42,8 +45,10 @@ void judge(const test_case& c, tally& t) {
 
 std::string test_shapes(random_source r) {
     std::vector<std::string> must = shape_names();
-    must.insert(must.end(), {"trees accepted, over 4,000 words", "trees accepted, smaller", "least size 4,095", "least size 4,096"});
-    tally t("shapes", must, {1, 2, 3, 4, 5, 6, 7, 8, 9, 10, 11, 12, 13, 14}, {1, 2, 3, 4, 5, 6, 7, 8, 9, 10, 11, 12, 13, 14, 15, 16});
+    must.insert(must.end(), {"trees accepted, over 4,000 words", "trees accepted, smaller",
+                             "least size 4,095", "least size 4,096"});
+    tally t("shapes", must, {1, 2, 3, 4, 5, 6, 7, 8, 9, 10, 11, 12, 13, 14},
+            {1, 2, 3, 4, 5, 6, 7, 8, 9, 10, 11, 12, 13, 14, 15, 16});
     for (const std::string& shape : shape_names())
         for (std::size_t k = 0; k < EACH; ++k) {
             random_source own(r.next());

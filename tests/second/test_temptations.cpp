@@ -1,4 +1,5 @@
-// "Errors a bidder will be tempted by" (01): a finder for one node with each error built in, shown to answer otherwise on a named input.
+// "Errors a bidder will be tempted by" (01): a finder for one node with each error built in, shown to
+// answer otherwise on a named input.
 #include "parts.hpp"
 
 #include "least.hpp"
@@ -17,14 +18,17 @@ using tree = std::vector<std::uint32_t>;
 // Tries the rules of a since or an until; its parts are the right ones, from the reference.
 class bidder {
 public:
-    bidder(const test_case& c, error made) : where(setting_of(c.prefix, c.loop, c.table)), truth(where), best(where, truth), made(made) {}
+    bidder(const test_case& c, error made)
+        : where(setting_of(c.prefix, c.loop, c.table)), truth(where), best(where, truth), made(made) {}
 
     // The tree taken for the least one; none if no rule seems to fit.
     std::optional<tree> found(std::size_t entry, std::uint64_t i) {
         trees.clear();
         if (where.entries[entry].kind == SINCE) since(entry, i); else until(entry, i);
         if (trees.empty()) return {};
-        const auto smaller = [](const tree& a, const tree& b) { return a.size() != b.size() ? a.size() < b.size() : a < b; };
+        const auto smaller = [](const tree& a, const tree& b) {
+            return a.size() != b.size() ? a.size() < b.size() : a < b;
+        };
         return *std::min_element(trees.begin(), trees.end(), smaller);
     }
 
@@ -47,14 +51,15 @@ private:
         }
         for (std::uint64_t n = 1; n < 40; ++n) add(15, VIOLATED, left, i + n - 1, right, i, i + n);
         std::uint64_t end = i + where.endless_count(entry, i);
-        if (made == error::past_forgotten) end = std::max<std::uint64_t>(i, where.prefix.size()) + where.loop.size();
+        if (made == error::past_forgotten)
+            end = std::max<std::uint64_t>(i, where.prefix.size()) + where.loop.size();
         if (made == error::grown_from_next) end = i + 1 + where.endless_count(entry, i + 1);
         add(16, VIOLATED, {}, 0, right, i, end);
     }
 
     // Adds the tree of a rule with a first part, if it has one, and a list, if all of them have the verdict.
-    void add(std::uint32_t rule, std::uint32_t verdict, std::optional<std::size_t> first, std::uint64_t at, std::size_t list, std::uint64_t from,
-             std::uint64_t to) {
+    void add(std::uint32_t rule, std::uint32_t verdict, std::optional<std::size_t> first, std::uint64_t at,
+             std::size_t list, std::uint64_t from, std::uint64_t to) {
         tree t{word_of({rule, 0, std::uint32_t(to - from)})};
         const auto part = [&](std::size_t entry, std::uint64_t position) {
             const tree& below = best.tree(entry, position);
@@ -74,7 +79,8 @@ private:
     std::vector<tree> trees;
 };
 
-// A question, the error, the size that it gives (0 if no tree), and what the checker says of the tree: 0, or 9 with a place.
+// A question, the error, the size that it gives (0 if no tree), and what the checker says
+// of the tree: 0, or 9 with a place.
 struct row {
     const char* question;
     error made;
@@ -83,11 +89,15 @@ struct row {
     const char* name;
 };
 
-const char A_6_AT_1[] = "find | 1;4,2;0,1,0/0,0,0/5,1,0/1,2,0/4,0,1/0,2,0/5,5,4 6 1 | 16384 | 0 0 2 9 | | right has a past";
+const char A_6_AT_1[] = "find | 1;4,2;0,1,0/0,0,0/5,1,0/1,2,0/4,0,1/0,2,0/5,5,4 6 1 | 16384 | 0 0 2 9 | | "
+                        "right has a past";
 const char B_2_AT_0[] = "find | ;1;0,0,0/0,1,0/5,0,1 2 0 | 16384 | 0 0 2 2 | | at the right side's threshold";
-const char BEFORE[] = "find | 1;1;0,0,0/0,1,0/5,0,1 2 0 | 16384 | 0 0 2 3 | | before the right side's threshold growing is right";
-const char LATER[] = "find | 1;3;0,0,0/0,1,0/5,0,1/2,1,2/5,0,3 4 0 | 16384 | 0 0 1 4 | | the second witness has cheaper parts";
-const char A_4_AT_0[] = "find | 1;4,2;0,1,0/0,0,0/5,1,0/1,2,0/4,0,1 4 0 | 16384 | 0 0 1 2 | | left does not hold at the witness";
+const char BEFORE[] = "find | 1;1;0,0,0/0,1,0/5,0,1 2 0 | 16384 | 0 0 2 3 | | "
+                      "before the right side's threshold growing is right";
+const char LATER[] = "find | 1;3;0,0,0/0,1,0/5,0,1/2,1,2/5,0,3 4 0 | 16384 | 0 0 1 4 | | "
+                     "the second witness has cheaper parts";
+const char A_4_AT_0[] = "find | 1;4,2;0,1,0/0,0,0/5,1,0/1,2,0/4,0,1 4 0 | 16384 | 0 0 1 2 | | "
+                        "left does not hold at the witness";
 const char BOTH[] = "find | ;3;0,0,0/0,1,0/4,0,1 2 1 | 16384 | 0 0 1 2 | | left holds at the witness as well";
 
 const row ROWS[] = {
@@ -110,15 +120,18 @@ std::string test_temptations() {
             if (!as_should) throw failure(std::string(w.name) + ": " + what + "\n" + w.question);
         };
         engine e(c.prefix, c.loop, c.table);
-        expect(c.expected.size == w.right_size && e.find(c.entry, c.position, work) == c.expected, "the reference does not find the right size");
+        expect(c.expected.size == w.right_size && e.find(c.entry, c.position, work) == c.expected,
+               "the reference does not find the right size");
         tree right(w.right_size);
         e.write(c.entry, c.position, work, right);
-        expect(bidder(c, error::none).found(c.entry, c.position) == right, "without the error the tree is not the reference's");
+        expect(bidder(c, error::none).found(c.entry, c.position) == right,
+               "without the error the tree is not the reference's");
         const std::optional<tree> wrong = bidder(c, w.made).found(c.entry, c.position);
         expect((wrong ? wrong->size() : 0) == w.wrong_size, "the error gives another size than it should");
         if (wrong) {
             const answer checked = e.check(c.entry, c.position, *wrong);
-            expect(checked.number == w.number && checked.place == w.place, "the checker says something else of the wrong tree");
+            expect(checked.number == w.number && checked.place == w.place,
+                   "the checker says something else of the wrong tree");
             t.met_refusal(checked.number);
         }
         if (wrong != right) t.met("told apart");

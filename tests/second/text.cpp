@@ -63,7 +63,8 @@ public:
     // The whole text as a question; nothing if the line last asked for is wrong or missing.
     std::optional<question> read() {
         question q;
-        if (!letters(after("prefix=", line()), q.prefix) || !letters(after("loop=", line()), q.loop)) return {};
+        if (!letters(after("prefix=", line()), q.prefix)) return {};
+        if (!letters(after("loop=", line()), q.loop)) return {};
         std::optional<std::string_view> last = line();
         for (; after("entry=", last); last = line()) {
             const auto fields = numbers_of(*after("entry=", last), 255);
@@ -109,7 +110,8 @@ std::string explain(std::span<const std::uint8_t> text) {
     out += "size=" + std::to_string(a.size) + "\n";
     for (std::uint32_t word : words(tree).first(a.size)) {
         const node_fields node = node_of(word);
-        out += "node=" + std::to_string(node.rule) + "," + std::to_string(node.atom) + "," + std::to_string(node.number) + "\n";
+        out += "node=" + std::to_string(node.rule) + "," + std::to_string(node.atom) + "," +
+               std::to_string(node.number) + "\n";
     }
     return out;
 }

@@ -9,8 +9,9 @@ namespace {
 
 using namespace second;
 
-// Entries 2 to 31, by turns an until and another kind, each over the one before it and an atom that leaves the verdict to that. Where the heights
-// would pass 5, and at a last place near the end, they start from an atom again, so that the last trees are large but not too large.
+// Entries 2 to 31, by turns an until and another kind, each over the one before it and an atom that leaves
+// the verdict to that. Where the heights would pass 5, and at a last place near the end, they start from an
+// atom again, so that the last trees are large but not too large.
 list table_of(const std::vector<std::uint64_t>& others, std::size_t last_start) {
     growing_table t;
     t.add(entry_word(ATOM, 0, 0)), t.add(entry_word(ATOM, 1, 0));
@@ -51,7 +52,8 @@ list letters_of(const pattern& p) {
 } // namespace
 
 std::vector<asked> dear_questions() {
-    const named_table tables[] = {{"untils and pairs", table_of({OR, AND}, 28), 255}, {"untils and sinces", table_of({SINCE}, 30), 60}};
+    const named_table tables[] = {{"untils and pairs", table_of({OR, AND}, 28), 255},
+                                  {"untils and sinces", table_of({SINCE}, 30), 60}};
     std::vector<asked> all;
     for (const named_table& t : tables)
         for (const pattern& p : PATTERNS)

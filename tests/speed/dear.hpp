@@ -1,4 +1,5 @@
-// The dearest questions: for the filling 48 letters, 32 entries, heights at 5, every second entry an until; for the heights many ways down.
+// The dearest questions: for the filling 48 letters, 32 entries, heights at 5, every second entry an
+// until; for the heights many ways down.
 #pragma once
 
 #include "asked.hpp"

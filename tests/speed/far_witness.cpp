@@ -17,7 +17,8 @@ test_case far_witness(const std::string& question, std::size_t words) {
     least best(where, truth);
     const entry_fields until = where.entries[c.entry];
     std::size_t n = 0, members = 0;
-    while (1 + best.size(until.right, n + 1) + members + best.size(until.left, n) <= words) members += best.size(until.left, n), ++n;
+    while (1 + best.size(until.right, n + 1) + members + best.size(until.left, n) <= words)
+        members += best.size(until.left, n), ++n;
     c.tree = {word_of({14, 0, std::uint32_t(n)})};
     const auto add = [&](std::size_t entry, std::size_t position) {
         const std::vector<std::uint32_t>& part = best.tree(entry, position);

@@ -1,4 +1,5 @@
-// The least tree from the filled cells: at each node the first rule, and of that the smallest count, whose parts add up to the cell's size.
+// The least tree from the filled cells: at each node the first rule, and of that the smallest count, whose
+// parts add up to the cell's size.
 #include "plain.hpp"
 
 #include "plain_filling.hpp"
@@ -13,7 +14,8 @@ using namespace second;
 
 class writer {
 public:
-    writer(const question& q, const std::uint16_t* work, std::uint32_t* tree) : q(q), work(work), next(tree) {}
+    writer(const question& q, const std::uint16_t* work, std::uint32_t* tree)
+        : q(q), work(work), next(tree) {}
 
     void write(std::size_t entry, std::size_t i) {
         const entry_fields e = q.entries[entry];
@@ -41,7 +43,9 @@ public:
 private:
     std::uint16_t at(std::size_t entry, std::size_t i) const { return work[ROW * entry + i]; }
 
-    void put(std::uint32_t rule, std::uint32_t atom, std::size_t number) { *next++ = word_of({rule, atom, std::uint32_t(number)}); }
+    void put(std::uint32_t rule, std::uint32_t atom, std::size_t number) {
+        *next++ = word_of({rule, atom, std::uint32_t(number)});
+    }
 
     void list(std::size_t entry, std::size_t from, std::size_t n) {
         for (std::size_t k = from; k < from + n; ++k) write(entry, k);
@@ -89,8 +93,8 @@ private:
 
 } // namespace
 
-answer write(words prefix, words loop, words table, std::size_t entry, std::size_t position, std::span<std::uint16_t> work,
-             std::span<std::uint32_t> tree) {
+answer write(words prefix, words loop, words table, std::size_t entry, std::size_t position,
+             std::span<std::uint16_t> work, std::span<std::uint32_t> tree) {
     const question q(prefix, loop, table, position);
     fill(q, entry, work.data());
     const std::uint16_t cell = work[ROW * entry + position];

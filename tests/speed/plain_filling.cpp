@@ -1,4 +1,5 @@
-// A bounded number of steps a cell: since goes up and until goes down, each with a state that holds the best of all witnesses so far.
+// A bounded number of steps a cell: since goes up and until goes down, each with a state that holds
+// the best of all witnesses so far.
 #include "plain_filling.hpp"
 
 #include <algorithm>
@@ -11,7 +12,9 @@ using namespace second;
 
 std::uint32_t least(std::uint32_t a, std::uint32_t b) { return std::min({a, b, CUT}); }
 
-std::uint16_t cell_of(bool holds, std::uint32_t pro, std::uint32_t con) { return std::uint16_t(holds ? HOLDING + pro : con); }
+std::uint16_t cell_of(bool holds, std::uint32_t pro, std::uint32_t con) {
+    return std::uint16_t(holds ? HOLDING + pro : con);
+}
 
 // The best since or until with a witness up to the neighbour's place.
 struct state {
@@ -36,17 +39,20 @@ void fill_atom(const question& q, std::uint32_t atom, std::size_t columns, std::
 }
 
 void fill_not(const std::uint16_t* part, std::size_t columns, std::uint16_t* row) {
-    for (std::size_t k = 0; k < columns; ++k) row[k] = cell_of(part[k] < HOLDING, least(1 + con(part[k]), CUT), least(1 + pro(part[k]), CUT));
+    for (std::size_t k = 0; k < columns; ++k)
+        row[k] = cell_of(part[k] < HOLDING, least(1 + con(part[k]), CUT), least(1 + pro(part[k]), CUT));
 }
 
 void fill_or(const std::uint16_t* a, const std::uint16_t* b, std::size_t columns, std::uint16_t* row) {
     for (std::size_t k = 0; k < columns; ++k)
-        row[k] = cell_of(a[k] >= HOLDING || b[k] >= HOLDING, least(1 + pro(a[k]), 1 + pro(b[k])), least(1 + con(a[k]) + con(b[k]), CUT));
+        row[k] = cell_of(a[k] >= HOLDING || b[k] >= HOLDING, least(1 + pro(a[k]), 1 + pro(b[k])),
+                         least(1 + con(a[k]) + con(b[k]), CUT));
 }
 
 void fill_and(const std::uint16_t* a, const std::uint16_t* b, std::size_t columns, std::uint16_t* row) {
     for (std::size_t k = 0; k < columns; ++k)
-        row[k] = cell_of(a[k] >= HOLDING && b[k] >= HOLDING, least(1 + pro(a[k]) + pro(b[k]), CUT), least(1 + con(a[k]), 1 + con(b[k])));
+        row[k] = cell_of(a[k] >= HOLDING && b[k] >= HOLDING, least(1 + pro(a[k]) + pro(b[k]), CUT),
+                         least(1 + con(a[k]), 1 + con(b[k])));
 }
 
 // The 1 to begin with is rule 13 with no members: it grows by a member at each place.
@@ -55,9 +61,10 @@ void fill_since(const std::uint16_t* a, const std::uint16_t* b, std::size_t colu
     for (std::size_t k = 0; k < columns; ++k) x.step(a[k], b[k]), row[k] = cell_of(x.holds, x.pro, x.con);
 }
 
-// From a lap above the row. Rule 16 is taken in at the store only; its list, from k to a lap past the larger of k and the threshold, is a sum that
-// slides, kept whole so that something can be taken away from it.
-void fill_until(const std::uint16_t* a, const std::uint16_t* b, std::size_t columns, std::size_t lap, std::size_t threshold, std::uint16_t* row) {
+// From a lap above the row. Rule 16 is taken in at the store only; its list, from k to a lap past the larger
+// of k and the threshold, is a sum that slides, kept whole so that something can be taken away from it.
+void fill_until(const std::uint16_t* a, const std::uint16_t* b, std::size_t columns, std::size_t lap,
+                std::size_t threshold, std::uint16_t* row) {
     state x{false, CUT, CUT};
     std::uint32_t list = 0;
     for (std::size_t k = columns + lap; k-- > columns;) x.step(a[k], b[k]), list += con(b[k]);
@@ -77,7 +84,8 @@ question::question(words prefix, words loop, words table, std::size_t position)
         const entry_fields e = entries[k] = entry_of(table[k]);
         past[k] = future[k] = 0;
         if (e.kind != ATOM) past[k] = past[e.left], future[k] = future[e.left];
-        if (e.kind >= OR) past[k] = std::max(past[k], past[e.right]), future[k] = std::max(future[k], future[e.right]);
+        if (e.kind >= OR)
+            past[k] = std::max(past[k], past[e.right]), future[k] = std::max(future[k], future[e.right]);
         past[k] += e.kind == SINCE, future[k] += e.kind == UNTIL;
     }
 }

@@ -1,7 +1,9 @@
-// The filling of the work slice in plain C++: for each entry and position the verdict and the least size of a tree, cut off at 4,096.
+// The filling of the work slice in plain C++: for each entry and position the verdict and the least
+// size of a tree, cut off at 4,096.
 #pragma once
 
-// Every loop begins a line of the cache. Else where the linker happens to put the plain program would decide about up to half of its time.
+// Every loop begins a line of the cache. Else where the linker happens to put the plain program would
+// decide about up to half of its time.
 #pragma GCC optimize("align-functions=64", "align-loops=64")
 
 #include "rules.hpp"
@@ -12,7 +14,8 @@ inline constexpr std::uint32_t CUT = 4096;      // stands for every size above 4
 inline constexpr std::uint16_t HOLDING = 8192;  // more in a cell where the entry holds
 inline constexpr std::size_t ROW = 512;         // cells an entry
 
-// The size of a tree that proves the one verdict, or the other; no such tree is as good as one that is too large.
+// The size of a tree that proves the one verdict, or the other; no such tree is
+// as good as one that is too large.
 inline std::uint32_t pro(std::uint16_t cell) { return cell >= HOLDING ? cell - HOLDING : CUT; }
 inline std::uint32_t con(std::uint16_t cell) { return cell >= HOLDING ? CUT : cell; }
 
@@ -21,7 +24,9 @@ struct question {
     question(second::words prefix, second::words loop, second::words table, std::size_t position);
 
     // How far the row of an entry goes, and from where on the entry repeats with the loop.
-    std::size_t columns(std::size_t entry) const { return reach + loop.size() * (second::MAX_HEIGHTS - future[entry]); }
+    std::size_t columns(std::size_t entry) const {
+        return reach + loop.size() * (second::MAX_HEIGHTS - future[entry]);
+    }
     std::size_t threshold(std::size_t entry) const { return prefix.size() + loop.size() * past[entry]; }
 
     second::words prefix, loop;

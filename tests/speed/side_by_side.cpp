@@ -22,12 +22,14 @@ void compare(row& r) {
 
 void measure_round(row& r) {
     const auto [library, plain] = seconds_of_both([&] { r.library.run(r.c); }, [&] { r.plain.run(r.c); });
-    r.library.seconds = std::min(r.library.seconds, library), r.plain.seconds = std::min(r.plain.seconds, plain);
+    r.library.seconds = std::min(r.library.seconds, library);
+    r.plain.seconds = std::min(r.plain.seconds, plain);
 }
 
 } // namespace
 
-row::row(const asked& question) : name(question.name), c(question.c), library{library::write}, plain{plain::write} {}
+row::row(const asked& question)
+    : name(question.name), c(question.c), library{library::write}, plain{plain::write} {}
 
 // In rounds, so that what else the machine has to do falls on all questions alike.
 void measure(std::span<group> groups) {

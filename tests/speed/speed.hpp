@@ -1,4 +1,5 @@
-// The reports. Nothing in them passes or fails by the clock, but each throws std::runtime_error where the library answers wrongly.
+// The reports. Nothing in them passes or fails by the clock, but each throws std::runtime_error
+// where the library answers wrongly.
 #pragma once
 
 namespace speed {

@@ -17,7 +17,8 @@ double seconds_of_batch(const std::function<void()>& call, std::size_t calls) {
     return std::chrono::duration<double>(std::chrono::steady_clock::now() - start).count();
 }
 
-// The batches of a call: how many calls make one, and the least so far. Finding that out is not counted as spent.
+// The batches of a call: how many calls make one, and the least so far. Finding
+// that out is not counted as spent.
 class batches {
 public:
     batches(const std::function<void()>& call, double all) : call(call), all(all) {

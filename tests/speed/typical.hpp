@@ -1,4 +1,5 @@
-// Typical questions: rules of six entries, together of all six kinds, on a day of eight letters. And the smallest questions.
+// Typical questions: rules of six entries, together of all six kinds, on a day of eight
+// letters. And the smallest questions.
 #pragma once
 
 #include "asked.hpp"

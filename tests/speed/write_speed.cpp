@@ -17,7 +17,8 @@ namespace {
 
 // The times of the library and of the plain program, and their ratio.
 void print_times(double library, double plain) {
-    std::cout << std::setw(15) << library * 1e6 << std::setw(16) << plain * 1e6 << std::setw(23) << library / plain;
+    std::cout << std::setw(15) << library * 1e6 << std::setw(16) << plain * 1e6 << std::setw(23)
+              << library / plain;
 }
 
 void print_rows(const group& g) {
@@ -49,16 +50,19 @@ constexpr std::array<std::size_t, 5> POSITIONS = {0, 3, 16, 64, 255};
 // The same questions at the first of the positions and at the last.
 void print_growth(const group& first, const group& last) {
     const auto growth = [&](runner row::*program) { return mean(last, program) / mean(first, program); };
-    std::cout << "    typical, time at " << POSITIONS.back() << " to time at " << POSITIONS.front() << ": the library "
-              << growth(&row::library) << ", the plain program " << growth(&row::plain) << "\n";
+    std::cout << "    typical, time at " << POSITIONS.back() << " to time at " << POSITIONS.front()
+              << ": the library " << growth(&row::library) << ", the plain program " << growth(&row::plain)
+              << "\n";
 }
 
 void print_filling() {
-    std::vector<group> groups = {{"the smallest: 1 entry, 1 letter", smallest_questions()},
-                                 {"the dearest: 48 letters, 32 entries, heights at 5, every second entry an until", dear_questions()}};
+    std::vector<group> groups = {
+        {"the smallest: 1 entry, 1 letter", smallest_questions()},
+        {"the dearest: 48 letters, 32 entries, heights at 5, every second entry an until", dear_questions()}};
     const std::size_t typical = groups.size();
     for (std::size_t position : POSITIONS)
-        groups.push_back({"typical: 6 entries, 8 letters, asked at " + std::to_string(position), typical_questions(position)});
+        groups.push_back({"typical: 6 entries, 8 letters, asked at " + std::to_string(position),
+                          typical_questions(position)});
     measure(groups);
     std::ranges::for_each(groups, print_rows);
     std::cout << "write, these groups, a question on average\n"
@@ -70,12 +74,14 @@ void print_filling() {
 // The plain program works out all heights in one pass; 01 wants each worked out by following the parts down.
 void print_heights() {
     std::vector<asked> questions;
-    for (std::size_t entries : {8, 12, 16, 20, 24, 28, 32}) questions.push_back({std::to_string(entries), branching_question(entries)});
+    for (std::size_t entries : {8, 12, 16, 20, 24, 28, 32})
+        questions.push_back({std::to_string(entries), branching_question(entries)});
     group g("and(k - 1, k - 2)", questions);
     measure({&g, 1});
     std::cout << "write, " << g.name << "\n    entries   microseconds   plain program\n";
     for (const row& r : g.rows)
-        std::cout << std::setw(11) << r.name << std::setw(15) << r.library.seconds * 1e6 << std::setw(16) << r.plain.seconds * 1e6 << "\n";
+        std::cout << std::setw(11) << r.name << std::setw(15) << r.library.seconds * 1e6 << std::setw(16)
+                  << r.plain.seconds * 1e6 << "\n";
 }
 
 } // namespace

@@ -11,7 +11,8 @@ using namespace second;
 
 list chain(std::uint64_t kind, std::size_t back) {
     list table = {entry_word(ATOM, 0, 0)};
-    for (std::size_t k = 1; k < MAX_ENTRIES; ++k) table.push_back(entry_word(kind, k - 1, kind == NOT ? 0 : k - std::min(k, back)));
+    for (std::size_t k = 1; k < MAX_ENTRIES; ++k)
+        table.push_back(entry_word(kind, k - 1, kind == NOT ? 0 : k - std::min(k, back)));
     return table;
 }
 
@@ -24,7 +25,8 @@ list chain_with(const std::set<std::size_t>& places, std::uint64_t kind, std::ui
     return table;
 }
 
-// A not adds a word, a pair of equal parts doubles them and adds one: 13 nots, eight pairs with a not after each of the first six, four nots.
+// A not adds a word, a pair of equal parts doubles them and adds one: 13 nots, eight pairs with a not after
+// each of the first six, four nots.
 list chain_of_4095_words() {
     list table = {entry_word(ATOM, 0, 0)};
     bool holds = false;
@@ -33,7 +35,8 @@ list chain_of_4095_words() {
     };
     add_nots(13);
     for (std::size_t pair = 1; pair <= 8; ++pair) {
-        table.push_back(entry_word(holds ? AND : OR, table.size() - 1, table.size() - 1)); // the kind that needs both parts
+        const std::uint64_t both = holds ? AND : OR; // the kind that needs both parts
+        table.push_back(entry_word(both, table.size() - 1, table.size() - 1));
         if (pair <= 6) add_nots(1);
     }
     add_nots(4);

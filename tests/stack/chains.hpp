@@ -1,4 +1,5 @@
-// Tables of 32 entries, each made from the one before it: the walk, the writer and the height routine go down an entry at a time.
+// Tables of 32 entries, each made from the one before it: the walk, the writer and the height
+// routine go down an entry at a time.
 #pragma once
 
 #include <cstddef>

@@ -26,7 +26,8 @@ group with_least_trees(const group& questions) {
 // An until over a chain of nots, with a witness as far off as a tree of 4,095 words can prove.
 group largest_tree() {
     test_case c;
-    c.what = call::check, c.loop = {1}, c.table = chain_with({MAX_ENTRIES - 1}, UNTIL, UNTIL), c.entry = MAX_ENTRIES - 1;
+    c.what = call::check, c.loop = {1};
+    c.table = chain_with({MAX_ENTRIES - 1}, UNTIL, UNTIL), c.entry = MAX_ENTRIES - 1;
     const std::size_t below = MAX_ENTRIES - 2, each = below + 1, n = (MAX_TREE - 1) / each - 1;
     engine parts(c.prefix, c.loop, c.table);
     std::vector<std::uint16_t> work(MIN_WORK);
@@ -47,7 +48,8 @@ group largest_tree() {
 std::vector<group> deep_checks() {
     std::vector<group> groups;
     for (const group& questions : deep_questions()) groups.push_back(with_least_trees(questions));
-    groups.insert(groups.end(), {largest_tree(), random_group("valid-tree", 200), random_group("damaged-tree", 200), random_group("long-tree", 200)});
+    groups.insert(groups.end(), {largest_tree(), random_group("valid-tree", 200),
+                                 random_group("damaged-tree", 200), random_group("long-tree", 200)});
     return groups;
 }
 

@@ -9,7 +9,8 @@ using namespace second;
 
 std::vector<group> deep_lent_calls(call what) {
     std::vector<group> groups = deep_questions();
-    for (const char* shape : {"full", "demanding", "heights-five", "size-by-halving", "size-by-lists", "lengths", "several-wrong"})
+    for (const char* shape : {"full", "demanding", "heights-five", "size-by-halving", "size-by-lists",
+                              "lengths", "several-wrong"})
         groups.push_back(random_group(shape, 100));
     for (group& g : groups)
         for (test_case& c : g.calls) {

@@ -1,4 +1,5 @@
-// stack: how much stack the library's calls take, and that it is no more than a fibre of an editor script has.
+// stack: how much stack the library's calls take, and that it is no more than
+// a fibre of an editor script has.
 #include "deep.hpp"
 #include "painted.hpp"
 
@@ -33,7 +34,8 @@ struct lent_call {
     std::vector<std::uint32_t> tree;
 };
 
-// The bytes that a call takes, with the few that it takes to get there. A call that answers something else would be no measure.
+// The bytes that a call takes, with the few that it takes to get there. A call that answers
+// something else would be no measure.
 std::size_t depth_of_call(painted_stack& on, const second::test_case& c) {
     second::answer got;
     lent_call lent(c);
@@ -43,11 +45,14 @@ std::size_t depth_of_call(painted_stack& on, const second::test_case& c) {
 }
 
 void print_row(const std::string& name, std::size_t depth, const std::string& of) {
-    std::cout << "    " << std::left << std::setw(48) << name << std::right << std::setw(6) << depth << of << "\n";
+    std::cout << "    " << std::left << std::setw(48) << name << std::right << std::setw(6) << depth << of
+              << "\n";
 }
 
 // The tree that a call reads or writes, if any.
-const std::vector<std::uint32_t>& tree_of(const second::test_case& c) { return c.what == call::check ? c.tree : c.written; }
+const std::vector<std::uint32_t>& tree_of(const second::test_case& c) {
+    return c.what == call::check ? c.tree : c.written;
+}
 
 // The depth of the deepest call of a group; prints a row for it.
 std::size_t depth_of_group(painted_stack& on, const group& g) {
@@ -57,10 +62,14 @@ std::size_t depth_of_group(painted_stack& on, const group& g) {
         answered += c.expected.number == 0;
         const std::vector<std::uint32_t>& tree = tree_of(c);
         longest = std::max(longest, tree.size());
-        nodes += std::size_t(std::ranges::count_if(tree, [](std::uint32_t word) { return second::node_of(word).rule == 16; }));
+        nodes += std::size_t(std::ranges::count_if(
+            tree, [](std::uint32_t word) { return second::node_of(word).rule == 16; }));
     }
-    std::string row = "   calls " + std::to_string(g.calls.size()) + ", not refused " + std::to_string(answered);
-    if (longest > 0) row += ", words of a tree to " + std::to_string(longest) + ", nodes of rule 16 " + std::to_string(nodes);
+    std::string row =
+        "   calls " + std::to_string(g.calls.size()) + ", not refused " + std::to_string(answered);
+    if (longest > 0)
+        row += ", words of a tree to " + std::to_string(longest) + ", nodes of rule 16 " +
+               std::to_string(nodes);
     print_row(g.name, deepest, row);
     return deepest;
 }
@@ -78,8 +87,11 @@ std::size_t depth_of_all(painted_stack& on, const std::string& name, const std::
 void insist_on_the_largest_tree(const std::vector<group>& groups) {
     for (const group& g : groups)
         for (const second::test_case& c : g.calls)
-            if (c.expected.number == 0 && tree_of(c).size() == second::MAX_TREE && c.table.size() == second::MAX_ENTRIES) return;
-    throw std::runtime_error("no tree of " + std::to_string(second::MAX_TREE) + " words over " + std::to_string(second::MAX_ENTRIES) + " entries");
+            if (c.expected.number == 0 && tree_of(c).size() == second::MAX_TREE &&
+                c.table.size() == second::MAX_ENTRIES)
+                return;
+    throw std::runtime_error("no tree of " + std::to_string(second::MAX_TREE) + " words over " +
+                             std::to_string(second::MAX_ENTRIES) + " entries");
 }
 
 } // namespace
@@ -95,7 +107,8 @@ int main() try {
     };
     for (call what : {call::truth, call::find, call::write}) measure(what, deep_lent_calls(what));
     measure(call::check, deep_checks());
-    if (!too_deep.empty()) throw std::runtime_error("more than " + std::to_string(FIBRE) + " bytes of stack:" + too_deep);
+    if (!too_deep.empty())
+        throw std::runtime_error("more than " + std::to_string(FIBRE) + " bytes of stack:" + too_deep);
 } catch (const std::exception& e) {
     std::cout.flush();
     std::cerr << "stack: FAILED\n" << e.what() << "\n";

@@ -26,15 +26,20 @@ std::string size_class(std::size_t size) {
     return size < 100 ? "trees of 10 to 99" : size < 4095 ? "trees of 100 to 4094" : "trees of 4095";
 }
 
-std::size_t number_behind(const std::string& output, const std::string& name) { return std::stoul(output.substr(output.find(name) + name.size())); }
+std::size_t number_behind(const std::string& output, const std::string& name) {
+    return std::stoul(output.substr(output.find(name) + name.size()));
+}
 
 } // namespace
 
 counts::counts()
-    : texts("texts", {"case files", "sound", "damaged", "holds", "violated", "trees of 1 to 9", "trees of 10 to 99", "trees of 100 to 4094", "trees of 4095",
-                      "no byte", "8192 bytes", "8193 bytes"},
+    : texts("texts",
+            {"case files", "sound", "damaged", "holds", "violated", "trees of 1 to 9", "trees of 10 to 99",
+             "trees of 100 to 4094", "trees of 4095", "no byte", "8192 bytes", "8193 bytes"},
             {1, 2, 3, 4, 5, 6, 7, 11, 13, 14}, {1, 2, 3, 4, 5, 6, 7, 8, 9, 10, 11, 12, 13, 14, 15, 16}),
-      wrong_lines("refusal 13 by line", {"line 1", "line 2", "line 3", "line 4", "line 5", "line 6", "line 7", "line 8", "lines 10 to 39", "line 682", "line 683"},
+      wrong_lines("refusal 13 by line",
+                  {"line 1", "line 2", "line 3", "line 4", "line 5", "line 6", "line 7", "line 8",
+                   "lines 10 to 39", "line 682", "line 683"},
                   {}, {}),
       traps("traps", trap_names(), {}, {}) {}
 
@@ -56,7 +61,8 @@ void counts::text(const std::string& part, const std::string& text, const std::s
 
 std::string counts::lines() const {
     if (sound + damaged < LEAST_TEXTS || 2 * damaged < LEAST_TEXTS)
-        throw second::failure("texts: only " + std::to_string(sound) + " sound and " + std::to_string(damaged) + " damaged");
+        throw second::failure("texts: only " + std::to_string(sound) + " sound and " +
+                              std::to_string(damaged) + " damaged");
     return texts.line() + "\n" + wrong_lines.line() + "\n" + traps.line();
 }
 

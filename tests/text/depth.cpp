@@ -19,7 +19,10 @@ constexpr std::size_t FIBRE = 16384;
 // Entry 31 is 31 times a kind over what is below it, down to an atom.
 std::string chain(const std::string& kind, bool twice) {
     std::string text = "prefix=\nloop=1\nentry=0,0,0\n";
-    for (int k = 1; k < 32; ++k) text += "entry=" + kind + "," + std::to_string(k - 1) + "," + (twice ? std::to_string(k - 1) : "0") + "\n";
+    for (int k = 1; k < 32; ++k) {
+        const std::string part = std::to_string(k - 1);
+        text += "entry=" + kind + "," + part + "," + (twice ? part : "0") + "\n";
+    }
     return text + "ask=31,0\n";
 }
 
@@ -34,8 +37,11 @@ std::size_t deepest() {
     for (const std::string& text : {chain("1", false), chain("2", true), chain("3", true)}) {
         const auto* bytes = reinterpret_cast<const std::uint8_t*>(text.data());
         std::size_t length = 0;
-        most = std::max(most, on.depth_of([&] { length = chickvessel_explain(bytes, text.size(), work.data(), tree.data(), out.data()); }));
-        if (std::string(out.begin(), out.begin() + std::ptrdiff_t(length)) != second::explain({bytes, text.size()})) throw second::failure("depth: another output");
+        most = std::max(most, on.depth_of([&] {
+            length = chickvessel_explain(bytes, text.size(), work.data(), tree.data(), out.data());
+        }));
+        const std::string output(out.begin(), out.begin() + std::ptrdiff_t(length));
+        if (output != second::explain({bytes, text.size()})) throw second::failure("depth: another output");
     }
     if (most > FIBRE) throw second::failure("depth: " + std::to_string(most) + " bytes of stack");
     return most;

@@ -32,11 +32,15 @@ trapped number_in(lines all, std::size_t k, random_source& r, const std::string&
     return fits ? well_formed(all) : refused_at(all, k);
 }
 
-// 2^32 or 2^64 and a little: small numbers for a reader who wraps.
-std::string wrapping(random_source& r, bool sixty_four) {
-    const std::uint64_t little = r.below(6);
-    return sixty_four ? "1844674407370955161" + std::to_string(6 + little % 4) : std::to_string(4294967296 + little);
+// A number that is too large, drawn once the line is.
+trapped too_large_in(const lines& all, std::size_t k, random_source& r,
+                     std::string (*number)(random_source&)) {
+    return number_in(all, k, r, number(r), false);
 }
+
+// 2^32 or 2^64 and a little: small numbers for a reader who wraps.
+std::string past_32(random_source& r) { return std::to_string(4294967296 + r.below(6)); }
+std::string past_64(random_source& r) { return "1844674407370955161" + std::to_string(6 + r.below(6) % 4); }
 
 std::string thirty_digits(random_source& r) {
     std::string digits(1, char('1' + r.below(9)));
@@ -65,6 +69,12 @@ trapped many_letters_wrong_ask(const lines& all, random_source& r) {
     lines many = filled(all, k, r.between(8050, 8150), r);
     many[3] += ",0";
     return refused_at(many, 3);
+}
+
+trapped full_but_unended(const lines& all, random_source& r) {
+    std::string text = joined(filled(all, 0, MAX_BYTES + 1, r));
+    text.pop_back();
+    return {text, 13, 4};
 }
 
 trapped forty_nine_letters(lines all, bool ask_wrong) {
@@ -113,27 +123,33 @@ std::vector<trap> limit_traps() {
     using L = lines;
     using R = random_source;
     return {
-        {"letter 4294967295", [](L a, R& r) { const auto k = some_letters(r); return number_in(a, k, r, "4294967295", true); }},
-        {"letter 4294967296", [](L a, R& r) { const auto k = some_letters(r); return number_in(a, k, r, "4294967296", false); }},
-        {"letter of ten nines", [](L a, R& r) { const auto k = some_letters(r); return number_in(a, k, r, "9999999999", false); }},
-        {"letter past 2^32", [](L a, R& r) { const auto k = some_letters(r); const auto n = wrapping(r, false); return number_in(a, k, r, n, false); }},
-        {"letter past 2^64", [](L a, R& r) { const auto k = some_letters(r); const auto n = wrapping(r, true); return number_in(a, k, r, n, false); }},
-        {"letter of thirty digits", [](L a, R& r) { const auto k = some_letters(r); const auto n = thirty_digits(r); return number_in(a, k, r, n, false); }},
-        {"field 255", [](L a, R& r) { const auto k = some_entry(a, r); return number_in(a, k, r, "255", true); }},
-        {"field 256", [](L a, R& r) { const auto k = some_entry(a, r); return number_in(a, k, r, "256", false); }},
-        {"field past 2^32", [](L a, R& r) { const auto k = some_entry(a, r); const auto n = wrapping(r, false); return number_in(a, k, r, n, false); }},
-        {"field past 2^64", [](L a, R& r) { const auto k = some_entry(a, r); const auto n = wrapping(r, true); return number_in(a, k, r, n, false); }},
-        {"field of thirty digits", [](L a, R& r) { const auto k = some_entry(a, r); const auto n = thirty_digits(r); return number_in(a, k, r, n, false); }},
+        {"letter 4294967295",
+         [](L a, R& r) { return number_in(a, some_letters(r), r, "4294967295", true); }},
+        {"letter 4294967296",
+         [](L a, R& r) { return number_in(a, some_letters(r), r, "4294967296", false); }},
+        {"letter of ten nines",
+         [](L a, R& r) { return number_in(a, some_letters(r), r, "9999999999", false); }},
+        {"letter past 2^32", [](L a, R& r) { return too_large_in(a, some_letters(r), r, past_32); }},
+        {"letter past 2^64", [](L a, R& r) { return too_large_in(a, some_letters(r), r, past_64); }},
+        {"letter of thirty digits",
+         [](L a, R& r) { return too_large_in(a, some_letters(r), r, thirty_digits); }},
+        {"field 255", [](L a, R& r) { return number_in(a, some_entry(a, r), r, "255", true); }},
+        {"field 256", [](L a, R& r) { return number_in(a, some_entry(a, r), r, "256", false); }},
+        {"field past 2^32", [](L a, R& r) { return too_large_in(a, some_entry(a, r), r, past_32); }},
+        {"field past 2^64", [](L a, R& r) { return too_large_in(a, some_entry(a, r), r, past_64); }},
+        {"field of thirty digits",
+         [](L a, R& r) { return too_large_in(a, some_entry(a, r), r, thirty_digits); }},
         {"ask 65535", [](L a, R& r) { return number_in(a, a.size() - 1, r, "65535", true); }},
         {"ask 65536", [](L a, R& r) { return number_in(a, a.size() - 1, r, "65536", false); }},
-        {"ask past 2^32", [](L a, R& r) { const auto n = wrapping(r, false); return number_in(a, a.size() - 1, r, n, false); }},
-        {"ask past 2^64", [](L a, R& r) { const auto n = wrapping(r, true); return number_in(a, a.size() - 1, r, n, false); }},
-        {"ask of thirty digits", [](L a, R& r) { const auto n = thirty_digits(r); return number_in(a, a.size() - 1, r, n, false); }},
+        {"ask past 2^32", [](L a, R& r) { return too_large_in(a, a.size() - 1, r, past_32); }},
+        {"ask past 2^64", [](L a, R& r) { return too_large_in(a, a.size() - 1, r, past_64); }},
+        {"ask of thirty digits", [](L a, R& r) { return too_large_in(a, a.size() - 1, r, thirty_digits); }},
         {"empty prefix", [](L a, R&) { a[0] = "prefix="; return well_formed(a); }},
         {"empty loop", [](L a, R&) { a[1] = "loop="; return trapped{joined(a), 1, 0}; }},
         {"no entry", [](L a, R&) { return without_entries(a, true); }},
         {"no entry, empty loop", [](L a, R&) { return without_entries(a, false); }},
-        {"kind past 5", [](L a, R& r) { return with_entry(a, "entry=" + std::to_string(r.between(6, 255)) + ",0,0"); }},
+        {"kind past 5",
+         [](L a, R& r) { return with_entry(a, "entry=" + std::to_string(r.between(6, 255)) + ",0,0"); }},
         {"atom 32", [](L a, R&) { return with_entry(a, "entry=0,32,0"); }},
         {"49 letters", [](L a, R&) { return forty_nine_letters(a, false); }},
         {"49 letters, ask wrong", [](L a, R&) { return forty_nine_letters(a, true); }},
@@ -144,14 +160,19 @@ std::vector<trap> limit_traps() {
         {"680 entries", [](L, R&) { return most_entries("entry=0,0,0", true); }},
         {"680 entries, the last wrong", [](L, R&) { return most_entries("entry=0,0", true); }},
         {"680 entries, no ask", [](L, R&) { return most_entries("entry=0,0,0", false); }},
-        {"8,192 bytes, letters", [](L a, R& r) { return trapped{joined(filled(a, some_letters(r), MAX_BYTES, r)), 2, 0}; }},
-        {"8,193 bytes, letters", [](L a, R& r) { return trapped{joined(filled(a, some_letters(r), MAX_BYTES + 1, r)), 14, 0}; }},
-        {"8,192 bytes, no last newline", [](L a, R& r) { std::string s = joined(filled(a, 0, MAX_BYTES + 1, r)); s.pop_back(); return trapped{s, 13, 4}; }},
-        {"8,192 bytes and a newline", [](L a, R& r) { return trapped{joined(filled(a, 0, MAX_BYTES, r)) + "\n", 14, 0}; }},
+        {"8,192 bytes, letters",
+         [](L a, R& r) { return trapped{joined(filled(a, some_letters(r), MAX_BYTES, r)), 2, 0}; }},
+        {"8,193 bytes, letters",
+         [](L a, R& r) { return trapped{joined(filled(a, some_letters(r), MAX_BYTES + 1, r)), 14, 0}; }},
+        {"8,192 bytes, no last newline", [](L a, R& r) { return full_but_unended(a, r); }},
+        {"8,192 bytes and a newline",
+         [](L a, R& r) { return trapped{joined(filled(a, 0, MAX_BYTES, r)) + "\n", 14, 0}; }},
         {"8,192 other bytes", [](L, R& r) { return trapped{bytes_of(MAX_BYTES, r, true), 13, 1}; }},
-        {"8,193 other bytes", [](L, R& r) { return trapped{bytes_of(MAX_BYTES + 1, r, r.one_in(2)), 14, 0}; }},
+        {"8,193 other bytes",
+         [](L, R& r) { return trapped{bytes_of(MAX_BYTES + 1, r, r.one_in(2)), 14, 0}; }},
         {"far more bytes", [](L, R& r) { return trapped{bytes_of(r.between(8194, 70000), r, true), 14, 0}; }},
-        {"a sound text and far more", [](L a, R& r) { return trapped{joined(a) + bytes_of(r.between(8194, 20000), r, true), 14, 0}; }},
+        {"a sound text and far more",
+         [](L a, R& r) { return trapped{joined(a) + bytes_of(r.between(8194, 20000), r, true), 14, 0}; }},
     };
 }
 

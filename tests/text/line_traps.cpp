@@ -50,6 +50,24 @@ trapped dropped(lines all, std::size_t k) {
     return refused_at(all, k);
 }
 
+trapped empty_line(lines all, random_source& r) {
+    const std::size_t k = r.below(all.size());
+    all.insert(all.begin() + std::ptrdiff_t(k), "");
+    return refused_at(all, k);
+}
+
+trapped no_equals_sign(lines all, random_source& r) {
+    const std::size_t k = r.below(all.size());
+    all[k].erase(all[k].find('='), 1);
+    return refused_at(all, k);
+}
+
+trapped instead_of_fields(lines all, std::size_t k, const std::string& what) {
+    all[k].resize(all[k].find('=') + 1);
+    all[k] += what;
+    return refused_at(all, k);
+}
+
 trapped twice(lines all, std::size_t k) {
     all.insert(all.begin() + std::ptrdiff_t(k), all[k]);
     return refused_at(all, k + 1);
@@ -94,6 +112,12 @@ lines with_cr(lines all) {
     return all;
 }
 
+trapped cr_for_newline(const lines& all) {
+    std::string text = joined(all);
+    std::ranges::replace(text, '\n', '\r');
+    return {text, 13, 1};
+}
+
 } // namespace
 
 std::vector<trap> line_traps() {
@@ -102,7 +126,8 @@ std::vector<trap> line_traps() {
     return {
         {"nothing at all", [](L, R&) { return trapped{"", 13, 1}; }},
         {"a newline alone", [](L, R&) { return trapped{"\n", 13, 1}; }},
-        {"no last newline", [](L a, R&) { std::string s = joined(a); s.pop_back(); return trapped{s, 13, a.size()}; }},
+        {"no last newline",
+         [](L a, R&) { std::string s = joined(a); s.pop_back(); return trapped{s, 13, a.size()}; }},
         {"cut off", [](L a, R& r) { return cut_off(a, r); }},
         {"no prefix line", [](L a, R&) { return dropped(a, 0); }},
         {"no loop line", [](L a, R&) { return dropped(a, 1); }},
@@ -114,22 +139,24 @@ std::vector<trap> line_traps() {
         {"prefix and loop exchanged", [](L a, R&) { return exchanged(a, 0, 0); }},
         {"loop and entry exchanged", [](L a, R&) { return exchanged(a, 1, 1); }},
         {"ask before the last entry", [](L a, R&) { return exchanged(a, a.size() - 2, a.size() - 1); }},
-        {"an empty line", [](L a, R& r) { const std::size_t k = r.below(a.size()); a.insert(a.begin() + std::ptrdiff_t(k), ""); return refused_at(a, k); }},
+        {"an empty line", [](L a, R& r) { return empty_line(a, r); }},
         {"newline after ask", [](L a, R&) { return behind(a, "\n"); }},
         {"byte after ask", [](L a, R& r) { return behind(a, std::string(1, char(r.below(256)))); }},
         {"space after ask", [](L a, R&) { return behind(a, " "); }},
         {"byte 0 after ask", [](L a, R&) { return behind(a, std::string(1, '\0')); }},
         {"entry after ask", [](L a, R&) { return behind(a, a[2] + "\n"); }},
         {"the whole text twice", [](L a, R&) { return behind(a, joined(a)); }},
-        {"CR in a line", [](L a, R& r) { const std::size_t k = r.below(a.size()); a[k] += '\r'; return refused_at(a, k); }},
+        {"CR in a line",
+         [](L a, R& r) { const std::size_t k = r.below(a.size()); a[k] += '\r'; return refused_at(a, k); }},
         {"CR in every line", [](L a, R&) { return refused_at(with_cr(a), 0); }},
         {"CR, empty prefix", [](L a, R&) { a[0] = "prefix=\r"; return refused_at(a, 0); }},
-        {"CR for newline", [](L a, R&) { std::string s = joined(a); std::ranges::replace(s, '\n', '\r'); return trapped{s, 13, 1}; }},
+        {"CR for newline", [](L a, R&) { return cr_for_newline(a); }},
         {"byte 0 in a line", [](L a, R& r) { return anywhere(a, r, std::string(1, '\0')); }},
         {"byte 0 for a newline", [](L a, R& r) { return no_newline_between(a, r); }},
         {"tab", [](L a, R& r) { return anywhere(a, r, "\t"); }},
         {"space", [](L a, R& r) { return anywhere(a, r, " "); }},
-        {"other control byte", [](L a, R& r) { return anywhere(a, r, std::string(1, char(r.between(11, 31)))); }},
+        {"other control byte",
+         [](L a, R& r) { return anywhere(a, r, std::string(1, char(r.between(11, 31)))); }},
         {"high byte", [](L a, R& r) { return anywhere(a, r, std::string(1, char(r.between(127, 255)))); }},
         {"byte order mark", [](L a, R&) { a[0] = "\xef\xbb\xbf" + a[0]; return refused_at(a, 0); }},
         {"upper case", [](L a, R& r) { return upper_case(a, r); }},
@@ -139,16 +166,18 @@ std::vector<trap> line_traps() {
         {"thirty leading zeros", [](L a, R& r) { return before_a_number(a, r, std::string(30, '0')); }},
         {"hexadecimal", [](L a, R& r) { return before_a_number(a, r, "0x"); }},
         {"point", [](L a, R& r) { return anywhere(a, r, "."); }},
-        {"colon and slash", [](L a, R& r) { return anywhere(a, r, r.one_in(2) ? ":" : "/"); }}, // the bytes beside the digits
+        // The bytes beside the digits.
+        {"colon and slash", [](L a, R& r) { return anywhere(a, r, r.one_in(2) ? ":" : "/"); }},
         {"equals sign twice", [](L a, R& r) { return anywhere(a, r, "="); }},
-        {"no equals sign", [](L a, R& r) { const std::size_t k = r.below(a.size()); a[k].erase(a[k].find('='), 1); return refused_at(a, k); }},
+        {"no equals sign", [](L a, R& r) { return no_equals_sign(a, r); }},
         {"empty field", [](L a, R& r) { return empty_field(a, r); }},
-        {"comma alone", [](L a, R& r) { const std::size_t k = r.below(2); a[k].resize(a[k].find('=') + 1); a[k] += ","; return refused_at(a, k); }},
+        {"comma alone", [](L a, R& r) { return instead_of_fields(a, r.below(2), ","); }},
         {"a field too many", [](L a, R& r) { return other_count(a, r, true); }},
         {"a field too few", [](L a, R& r) { return other_count(a, r, false); }},
-        {"no field", [](L a, R& r) { const std::size_t k = r.between(2, a.size() - 1); a[k].resize(a[k].find('=') + 1); return refused_at(a, k); }},
+        {"no field", [](L a, R& r) { return instead_of_fields(a, r.between(2, a.size() - 1), ""); }},
         {"two wrong lines", [](L a, R& r) { return two_wrong(a, r); }},
-        {"wrong line, empty loop", [](L a, R&) { a[1] = "loop=", a.back() += ",1"; return refused_at(a, a.size() - 1); }},
+        {"wrong line, empty loop",
+         [](L a, R&) { a[1] = "loop=", a.back() += ",1"; return refused_at(a, a.size() - 1); }},
     };
 }
 

@@ -10,10 +10,13 @@ namespace {
 
 using namespace second;
 
-// How often a shape comes in a round of draws: those whose trees or refusals are few among random texts are drawn by their own shapes.
+// How often a shape comes in a round of draws: those whose trees or refusals are few among random
+// texts are drawn by their own shapes.
 const std::vector<std::string> ROUND = {
-    "text", "tiny", "deep", "mixed", "past", "future", "shared", "loop-of-one", "not-chain", "doubling-chain", "heights-five", "heights-six",
-    "far-position", "letters-at-the-edge", "entries-at-the-edge", "damaged-table", "several-wrong", "text", "tiny", "size-by-halving", "text", "size-by-lists",
+    "text", "tiny", "deep", "mixed", "past", "future", "shared", "loop-of-one", "not-chain",
+    "doubling-chain", "heights-five", "heights-six", "far-position", "letters-at-the-edge",
+    "entries-at-the-edge", "damaged-table", "several-wrong", "text", "tiny", "size-by-halving", "text",
+    "size-by-lists",
 };
 
 std::string text_of(test_case c) {
@@ -36,7 +39,8 @@ lines small_lines(random_source& r) {
     if (c.prefix.empty()) c.prefix.push_back(std::uint32_t(r.below(8)));
     lines all;
     std::string rest = text_of(c);
-    for (std::size_t end = rest.find('\n'); end != rest.npos; end = rest.find('\n')) all.push_back(rest.substr(0, end)), rest.erase(0, end + 1);
+    for (std::size_t end = rest.find('\n'); end != rest.npos; end = rest.find('\n'))
+        all.push_back(rest.substr(0, end)), rest.erase(0, end + 1);
     return all;
 }
 

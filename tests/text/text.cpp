@@ -1,5 +1,6 @@
-// text CASES [SEED [FOLDER COUNT]]: the text function of the proved program against the second program, byte for byte. CASES is the folder of the case files;
-// into FOLDER go at least COUNT of the texts, as N.in, with the right outputs, N.out, to be put through the program itself.
+// text CASES [SEED [FOLDER COUNT]]: the text function of the proved program against the second program, byte
+// for byte. CASES is the folder of the case files; into FOLDER go at least COUNT of the texts, as N.in, with
+// the right outputs, N.out, to be put through the program itself.
 #include "counts.hpp"
 #include "depth.hpp"
 #include "library_text.hpp"
@@ -16,7 +17,9 @@ using namespace second;
 
 constexpr std::size_t SOUND = 12000, TRAPPED = 100, DAMAGED = 6000; // TRAPPED for each trap
 
-std::string right_output(const std::string& text) { return explain({reinterpret_cast<const std::uint8_t*>(text.data()), text.size()}); }
+std::string right_output(const std::string& text) {
+    return explain({reinterpret_cast<const std::uint8_t*>(text.data()), text.size()});
+}
 
 std::string shown(const std::string& text) {
     test_case c;
@@ -37,7 +40,8 @@ public:
     }
 
     void insist() const {
-        if (!folder.empty() && count < wanted) throw failure("text: only " + std::to_string(count) + " texts for the program");
+        if (!folder.empty() && count < wanted)
+            throw failure("text: only " + std::to_string(count) + " texts for the program");
     }
 
 private:
@@ -57,14 +61,16 @@ std::string held(const std::string& text, random_source& r, const std::string& n
 // What a trap must be answered by construction, which the second program has to meet too.
 bool foreseen(const text::trapped& t, const std::string& output) {
     if (t.number == 0) return !output.starts_with("refused=13\n") && output != "refused=14\n";
-    return output == "refused=" + std::to_string(t.number) + "\n" + (t.number == 13 ? "line=" + std::to_string(t.line) + "\n" : "");
+    return output == "refused=" + std::to_string(t.number) + "\n" +
+                         (t.number == 13 ? "line=" + std::to_string(t.line) + "\n" : "");
 }
 
 void case_texts(const std::filesystem::path& folder, random_source& r, text::counts& met) {
     for (const auto& file : std::filesystem::directory_iterator(folder))
         for (const test_case& c : read_cases(file.path())) {
             if (c.what != call::explain) continue;
-            if (held(c.text, r, c.where) != c.output) throw failure(c.where + ": the second program prints something else");
+            if (held(c.text, r, c.where) != c.output)
+                throw failure(c.where + ": the second program prints something else");
             met.text("case files", c.text, c.output);
         }
 }
@@ -76,7 +82,9 @@ void trapped_texts(random_source& r, text::counts& met, kept& k) {
             const text::lines lines = text::small_lines(own);
             const text::trapped t = trap.make(lines, own);
             const std::string output = held(t.text, own, trap.name);
-            if (!foreseen(t, output)) throw failure(trap.name + ": not what the trap foresees: " + output.substr(0, 60) + "\n" + shown(t.text));
+            if (!foreseen(t, output))
+                throw failure(trap.name + ": not what the trap foresees: " + output.substr(0, 60) + "\n" +
+                              shown(t.text));
             met.text("damaged", t.text, output), met.trap(trap.name);
             k.offer(t.text, output, TRAPPED / 2); // two of each trap
         }
@@ -99,7 +107,8 @@ int main(int argc, char** argv) try {
     for (std::size_t n = 0; n < SOUND; ++n) {
         random_source own(r.next());
         const std::string text = text::sound_text(n, own), output = held(text, own, "sound");
-        if (output.starts_with("refused=13") || output == "refused=14\n") throw failure("sound: refused by its lines\n" + shown(text));
+        if (output.starts_with("refused=13") || output == "refused=14\n")
+            throw failure("sound: refused by its lines\n" + shown(text));
         met.text("sound", text, output), k.offer(text, output, 101);
     }
     for (std::size_t n = 0; n < DAMAGED; ++n) {
@@ -108,7 +117,8 @@ int main(int argc, char** argv) try {
         met.text("damaged", text, output), k.offer(text, output, 47);
     }
     k.insist();
-    std::cout << met.lines() << "\nstack of the text function: " << text::deepest() << " bytes\ntexts: no difference\n";
+    std::cout << met.lines() << "\nstack of the text function: " << text::deepest()
+              << " bytes\ntexts: no difference\n";
 } catch (const std::exception& e) {
     std::cout.flush();
     std::cerr << "texts: FAILED\n" << e.what() << "\n";

@@ -1,5 +1,5 @@
--- Decimals: bytes and number fix each other, every byte is a digit, no zero leads, and a small number has few digits.
--- Assumes nothing.
+-- Decimals: bytes and number fix each other, every byte is a digit, no zero leads,
+-- and a small number has few digits.
 use mathlib.Core.Path.{_≡_, refl, sym, ap, _∙_}
 use mathlib.Core.Logic.{_⊎_, inl, inr, ⊎-elim}
 use mathlib.Core.List.{List, [], _∷_, _++_}
@@ -23,7 +23,8 @@ value-grows n (d ∷ ds) = omega (arith, value-grows (n * 10 + (d - 48)) ds)
 
 pub decimal-value : {ds : List ℕ} {n : ℕ} → Decimal ds n → value 0 ds ≡ n
 decimal-value (digit lt) = omega arith
-decimal-value (longer {ds} {n} {d} p some lt) = let e = decimal-value p in value-append 0 ds ((48 + d) ∷ []) ∙ omega arith
+decimal-value (longer {ds} {n} {d} p some lt) =
+    let e = decimal-value p in value-append 0 ds ((48 + d) ∷ []) ∙ omega arith
 
 -- Bytes are those of one number.
 pub decimal-number : {ds : List ℕ} {n m : ℕ} → Decimal ds n → Decimal ds m → n ≡ m
@@ -52,7 +53,8 @@ digits-append (d ∷ ds) es p q = (p .0, p .1, digits-append ds es (p .2) q)
 
 pub decimal-digits : {ds : List ℕ} {n : ℕ} → Decimal ds n → Digits ds
 decimal-digits (digit lt) = (omega arith, omega arith, tt)
-decimal-digits (longer {ds} {d} p some lt) = digits-append ds ((48 + d) ∷ []) (decimal-digits p) (omega arith, omega arith, tt)
+decimal-digits (longer {ds} {d} p some lt) =
+    digits-append ds ((48 + d) ∷ []) (decimal-digits p) (omega arith, omega arith, tt)
 
 pub decimal-some : {ds : List ℕ} {n : ℕ} → Decimal ds n → 1 ≤ length ds
 decimal-some (digit lt) = omega arith
@@ -66,13 +68,13 @@ decimal-length (suc k) (longer {ds} {d} p some lt) small =
     omega (arith, length-append ds ((48 + d) ∷ []), decimal-length k p (omega (arith, small)))
 
 -- The first byte, and that it is 0 only where it is the last.
-pub record Leads (ds : List ℕ) : Type 0 where
+pub record FirstByte (ds : List ℕ) : Type 0 where
   pub first : ℕ
   pub others : List ℕ
   pub whole : ds ≡ first ∷ others
   pub lone : (others ≡ []) ⊎ (48 < first)
 
-pub decimal-leads : {ds : List ℕ} {n : ℕ} → Decimal ds n → Leads ds
+pub decimal-leads : {ds : List ℕ} {n : ℕ} → Decimal ds n → FirstByte ds
 decimal-leads (digit {d} lt) = record { first = 48 + d; others = []; whole = refl; lone = inl refl }
 decimal-leads (longer {ds} {n} {d} p some lt) =
     let l = decimal-leads p in
@@ -80,10 +82,8 @@ decimal-leads (longer {ds} {n} {d} p some lt) =
       first = l .first;
       others = l .others ++ (48 + d) ∷ [];
       whole = ap (λ es. es ++ (48 + d) ∷ []) (l .whole);
-      lone = inr (⊎-elim
-          (λ none.
-          let one : value 0 (l .first ∷ []) ≡ n = ap (λ es. value 0 (l .first ∷ es)) (sym none) ∙ ap (value 0) (sym (l .whole)) ∙ decimal-value p in
+      lone = inr (⊎-elim (λ none. let one : value 0 (l .first ∷ []) ≡ n
+          = ap (λ es. value 0 (l .first ∷ es)) (sym none) ∙ ap (value 0) (sym (l .whole)) ∙ decimal-value p in
           omega arith)
-          (λ more. more)
-          (l .lone));
+          (λ more. more) (l .lone));
     }

@@ -1,2 +1,2 @@
 pub mod Decimals
-pub mod Numbers
+pub mod inside

@@ -1,7 +1,12 @@
 // Decimal numbers in a text of bytes.
 ghost use Prim.Native.Nat.{_≤_};
 ghost use lib.ListN.{length};
-ghost use Rattle.decimals.specs.Numbers.{Figure, Numbered};
+ghost use Rattle.decimals.specs.inside.Numbers.{Figure, Numbered};
+
+// The byte between numbers, and the byte that ends a line.
+pub const COMMA: u8 = 44;
+
+pub const NEWLINE: u8 = 10;
 
 // A number and the place behind it.
 pub enum Numeral {
@@ -22,8 +27,8 @@ fn figure(byte: u8) -> u64
     byte as u64 - 48
 }
 
-// The number that stands at a place, up to the first byte that is no digit, if it is at most max. Digits are read no further than max
-// allows, so that no sum grows past 64 bits.
+// The number that stands at a place, up to the first byte that is no digit, if it is at most max. Digits are
+// read no further than max allows, so that no sum grows past 64 bits.
 pub fn number(text: &[u8], at: usize, max: u32) -> Numeral
     requires { ⌜ at ≤ length (now text) ⌝ }
     ensures { λ r. ⌜ Numbered (now (text .entry)) at max r ⌝ }

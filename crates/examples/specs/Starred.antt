@@ -6,9 +6,10 @@ use lib.ListN.{length}
 use Rattle.trees.specs.Nodes.{Node}
 use Rattle.trees.specs.declared.Verdict.{Verdict}
 use Rattle.trees.specs.declared.Verdict.the-variants.{Holds, Violated}
-use Rattle.theory.specs.Means.{Means}
-use Rattle.chickvessel.specs.Questions.{Question, question, wordIn, claimIn}
-use Rattle.chickvessel.specs.Found.{LeastIn}
+use Rattle.trees.specs.Means.{Means}
+use Rattle.asking.specs.Questions.{Question, question, wordIn, claimIn}
+use Rattle.finding.specs.Found.{LeastIn}
+use Rattle.rules.specs.Words.{entryWord}
 
 -- What is asked, and the verdict and the size of the least tree that were measured.
 pub record Row : Type 0 where
@@ -16,11 +17,8 @@ pub record Row : Type 0 where
   pub verdict : Verdict
   pub size : ℕ
 
--- The word of an entry. Kind 0 is an atom, 1 not, 4 since, 5 until.
-abbrev pub entryWord : ℕ → ℕ → ℕ → ℕ
-entryWord kind left right = kind * 65536 + left * 256 + right
-
--- 0 atom 1; 1 atom 0; 2 = 1 until 0; 3 = not 2; 4 = 0 since 1; 5 atom 2; 6 = 5 until 4; 7 atom 3; 8 = 0 until 7
+-- 0 atom 1; 1 atom 0; 2 = 1 until 0; 3 = not 2; 4 = 0 since 1; 5 atom 2;
+-- 6 = 5 until 4; 7 atom 3; 8 = 0 until 7
 abbrev pub tableA : List ℕ
 tableA =
     entryWord 0 1 0

@@ -1,14 +1,7 @@
-// Runs the measured examples and prints them, a line each. Its output is compared.
-mod lent;
-mod lists;
-mod measured;
-mod shown;
-mod tables;
+// Prints what the letter view shows, which C cannot call. The measured examples are a theorem
+// (proofs/Starred) and case lines.
 mod views;
 
 fn main() {
     views::views();
-    tables::tables();
-    measured::measured();
-    lent::buffers();
 }

@@ -1,16 +1,19 @@
--- Lines of an entry and of a question: a list of three numbers, or of two; and the lines of entries, read one by one.
--- Assumes nothing.
+-- Lines of an entry and of a question: a list of three numbers, or of two;
+-- and the lines of entries, read one by one.
 use mathlib.Core.Path.{_≡_, refl, sym, ap, subst, _∙_}
 use mathlib.Core.List.{List, [], _∷_, _++_, append-assoc}
 use Prim.Native.Nat.{ℕ, _+_, _*_, _≤_}
 use native.Mathlib.Omega.{arith}
-use lib.ListN.{length, getD, drop, set, length-append}
-use Rattle.questions.specs.Texts.{entryWord, line, wordOf, Commas, last, more}
-use Rattle.questions.specs.Lists.{kept, Ended, Some, Listed, Entry, Ask, EntryRead, Enters, Asks, EntryLines, none, more as another, AllEntries}
-use Rattle.questions.specs.declared.Entered.the-variants.{Wrong as NoEntry, Read as EntryAt}
-use Rattle.questions.specs.declared.Asked.the-variants.{Wrong as NotAsked, Read as AskedAt}
+use lib.ListN.{take, length, getD, drop, set, length-append}
+use Rattle.questions.specs.Texts.{entryKey, lineOf, Commas, last, more}
+use Rattle.rules.specs.Words.{entryWord}
+use Rattle.questions.specs.inside.Lists.{Ended, Some, Listed, EntryFields, AskFields, EntryRead, Enters}
+use Rattle.questions.specs.inside.Lists.{AskFound, EntryLines, none, more as another, AllEntries}
+use Rattle.questions.specs.declared.Entered.the-variants.{NoEntry, EntryAt}
+use Rattle.questions.specs.declared.AskedLine.the-variants.{NotAsked, AskedAt}
 use Rattle.questions.proofs.Keeping.{kept-none, kept-more, kept-length}
 use Rattle.questions.proofs.Wording.{plain-commas, ended-one, ended-line}
+use Rattle.schedule.specs.Buffers.{put}
 
 abbrev Bounded : ℕ → List ℕ → Type 0
 Bounded max [] = Unit
@@ -21,7 +24,7 @@ commas-bounded (last d le) = (le, tt)
 commas-bounded (more d le c) = (le, commas-bounded c)
 
 -- A list of three, kept in a buffer of three.
-record Three (max : ℕ) (ns now : List ℕ) : Type 0 where
+record TripleRead (max : ℕ) (ns now : List ℕ) : Type 0 where
   a : ℕ
   b : ℕ
   c : ℕ
@@ -31,12 +34,15 @@ record Three (max : ℕ) (ns now : List ℕ) : Type 0 where
   third : getD now 2 0 ≡ c
   bounds : (a ≤ max) × (b ≤ max) × (c ≤ max)
 
-three : (max : ℕ) (ns now found : List ℕ) → length found ≡ 3 → length ns ≡ 3 → Bounded max ns → now ≡ kept (length found) found ns → Three max ns now
+three : (max : ℕ) (ns now found : List ℕ) → length found ≡ 3 → length ns ≡ 3 → Bounded max ns
+    → now ≡ put 0 (take (length found) ns) found → TripleRead max ns now
+unfolding put
 three max [] now found size long small keeps = absurd (omega arith)
 three max (a ∷ []) now found size long small keeps = absurd (omega arith)
 three max (a ∷ b ∷ []) now found size long small keeps = absurd (omega arith)
 three max (a ∷ b ∷ c ∷ []) now found size long small keeps =
-    let is : now ≡ kept 3 found (a ∷ b ∷ c ∷ []) = keeps ∙ ap (λ k. kept k found (a ∷ b ∷ c ∷ [])) size in
+    let is : now ≡ put 0 (take 3 (a ∷ b ∷ c ∷ [])) found
+    = keeps ∙ ap (λ k. put 0 (take k (a ∷ b ∷ c ∷ [])) found) size in
     record {
       a = a;
       b = b;
@@ -49,7 +55,7 @@ three max (a ∷ b ∷ c ∷ []) now found size long small keeps =
     }
 three max (a ∷ b ∷ c ∷ d ∷ ns) now found size long small keeps = absurd (omega arith)
 
-record Two (max : ℕ) (ns now : List ℕ) : Type 0 where
+record PairRead (max : ℕ) (ns now : List ℕ) : Type 0 where
   a : ℕ
   b : ℕ
   whole : ns ≡ a ∷ b ∷ []
@@ -57,11 +63,14 @@ record Two (max : ℕ) (ns now : List ℕ) : Type 0 where
   second : getD now 1 0 ≡ b
   bounds : (a ≤ max) × (b ≤ max)
 
-two : (max : ℕ) (ns now found : List ℕ) → length found ≡ 2 → length ns ≡ 2 → Bounded max ns → now ≡ kept (length found) found ns → Two max ns now
+two : (max : ℕ) (ns now found : List ℕ) → length found ≡ 2 → length ns ≡ 2 → Bounded max ns
+    → now ≡ put 0 (take (length found) ns) found → PairRead max ns now
+unfolding put
 two max [] now found size long small keeps = absurd (omega arith)
 two max (a ∷ []) now found size long small keeps = absurd (omega arith)
 two max (a ∷ b ∷ []) now found size long small keeps =
-    let is : now ≡ kept 2 found (a ∷ b ∷ []) = keeps ∙ ap (λ k. kept k found (a ∷ b ∷ [])) size in
+    let is : now ≡ put 0 (take 2 (a ∷ b ∷ [])) found
+    = keeps ∙ ap (λ k. put 0 (take k (a ∷ b ∷ [])) found) size in
     record {
       a = a;
       b = b;
@@ -73,52 +82,68 @@ two max (a ∷ b ∷ []) now found size long small keeps =
 two max (a ∷ b ∷ c ∷ ns) now found size long small keeps = absurd (omega arith)
 
 module _ (text : List ℕ) (at : ℕ) where
-  pub entry-wrong : ¬ Some Entry (drop at text) → Enters text at NoEntry
-  entry-wrong wrong kind left right rest e = wrong (record { numbers = kind ∷ left ∷ right ∷ []; rest = rest; ended = e })
+  pub entry-wrong : ¬ Some EntryFields (drop at text) → Enters text at NoEntry
+  entry-wrong wrong kind left right rest e =
+      wrong (record { numbers = kind ∷ left ∷ right ∷ []; rest = rest; ended = e })
 
-  pub ask-wrong : ¬ Some Ask (drop at text) → Asks text at NotAsked
-  ask-wrong wrong entry position rest e = wrong (record { numbers = entry ∷ position ∷ []; rest = rest; ended = e })
+  pub ask-wrong : ¬ Some AskFields (drop at text) → AskFound text at NotAsked
+  ask-wrong wrong entry position rest e =
+      wrong (record { numbers = entry ∷ position ∷ []; rest = rest; ended = e })
 
   module _ {found now : List ℕ} {count next : ℕ} where
-    pub entry-count : Listed Entry text at found now count next → ¬ (count ≡ 3) → Enters text at NoEntry
-    entry-count l other kind left right rest e = other (l .counted ∙ ap length (ended-one (plain-commas 255) (l .ended) e .0))
+    pub entry-count : Listed EntryFields text at found now count next → ¬ (count ≡ 3) → Enters text at NoEntry
+    entry-count l other kind left right rest e =
+        other (l .counted ∙ ap length (ended-one (plain-commas 255) (l .ended) e .0))
 
-    pub ask-count : Listed Ask text at found now count next → ¬ (count ≡ 2) → Asks text at NotAsked
-    ask-count l other entry position rest e = other (l .counted ∙ ap length (ended-one (plain-commas 65535) (l .ended) e .0))
+    pub ask-count : Listed AskFields text at found now count next → ¬ (count ≡ 2) → AskFound text at NotAsked
+    ask-count l other entry position rest e =
+        other (l .counted ∙ ap length (ended-one (plain-commas 65535) (l .ended) e .0))
 
-    module _ (l : Listed Entry text at found now count next) (size : length found ≡ 3) (is : count ≡ 3) where
-      entry-three : Three 255 (l .numbers) now
-      entry-three = three 255 (l .numbers) now found size (sym (l .counted) ∙ is) (commas-bounded (l .ended .list .list)) (l .keeps)
+    module _ (l : Listed EntryFields text at found now count next) (size : length found ≡ 3)
+        (is : count ≡ 3) where
+      entry-three : TripleRead 255 (l .numbers) now
+      entry-three =
+          three 255 (l .numbers) now found size (sym (l .counted) ∙ is)
+          (commas-bounded (l .ended .list .list)) (l .keeps)
 
       pub entry-small : (getD now 0 0 ≤ 255) × (getD now 1 0 ≤ 255) × (getD now 2 0 ≤ 255)
-      entry-small = let t = entry-three in
-          (omega (arith, t .first, t .bounds .0), omega (arith, t .second, t .bounds .1), omega (arith, t .third, t .bounds .2))
+      entry-small =
+          let t = entry-three in (
+            omega (arith, t .first, t .bounds .0),
+            omega (arith, t .second, t .bounds .1),
+            omega (arith, t .third, t .bounds .2),
+          )
 
-      pub entry-read : Enters text at (EntryAt (getD now 0 0 * 65536 + getD now 1 0 * 256 + getD now 2 0) next)
+      pub entry-read : Enters text at
+          (EntryAt (getD now 0 0 * 65536 + getD now 1 0 * 256 + getD now 2 0) next)
       entry-read = let t = entry-three in
           record {
             kind = t .a;
             left = t .b;
             right = t .c;
-            ended = subst (λ ns. Ended Entry (drop at text) ns (drop next text)) (t .whole) (l .ended);
+            ended = subst (λ ns. Ended EntryFields (drop at text) ns (drop next text)) (t .whole) (l .ended);
             past = omega (arith, l .past);
             within = l .within;
             makes = λ i. t .first i * 65536 + t .second i * 256 + t .third i;
           }
 
-    module _ (l : Listed Ask text at found now count next) (size : length found ≡ 2) (is : count ≡ 2) where
-      pub ask-read : Asks text at (AskedAt (getD now 0 0) (getD now 1 0) next)
+    module _ (l : Listed AskFields text at found now count next) (size : length found ≡ 2)
+        (is : count ≡ 2) where
+      pub ask-read : AskFound text at (AskedAt (getD now 0 0) (getD now 1 0) next)
       ask-read =
-          let t = two 65535 (l .numbers) now found size (sym (l .counted) ∙ is) (commas-bounded (l .ended .list .list)) (l .keeps) in
+          let t = two 65535 (l .numbers) now found size (sym (l .counted) ∙ is)
+          (commas-bounded (l .ended .list .list)) (l .keeps) in
           record {
-            ended = subst (λ ns. Ended Ask (drop at text) ns (drop next text)) (t .whole ∙ (λ i. sym (t .first) i ∷ sym (t .second) i ∷ [])) (l .ended);
+            ended = subst (λ ns. Ended AskFields (drop at text) ns (drop next text))
+                (t .whole ∙ (λ i. sym (t .first) i ∷ sym (t .second) i ∷ [])) (l .ended);
             past = omega (arith, l .past);
             within = l .within;
           }
 
       pub ask-small : (getD now 0 0 ≤ 65535) × (getD now 1 0 ≤ 65535)
       ask-small =
-          let t = two 65535 (l .numbers) now found size (sym (l .counted) ∙ is) (commas-bounded (l .ended .list .list)) (l .keeps) in
+          let t = two 65535 (l .numbers) now found size (sym (l .counted) ∙ is)
+          (commas-bounded (l .ended .list .list)) (l .keeps) in
           (omega (arith, t .first, t .bounds .0), omega (arith, t .second, t .bounds .1))
 
 -- Lines of entries stand from a place up to another.
@@ -130,7 +155,7 @@ pub record Entering (text : List ℕ) (from : ℕ) (found : List ℕ) (at count 
   pub past : from + count ≤ at
   pub within : at ≤ length text
   pub counted : count ≡ length words
-  pub keeps : now ≡ kept (length found) found words
+  pub keeps : now ≡ put 0 (take (length found) words) found
 
 module _ {text : List ℕ} {from : ℕ} {found : List ℕ} where
   pub enter-none : from ≤ length text → Entering text from found from 0 found
@@ -149,7 +174,8 @@ module _ {text : List ℕ} {from : ℕ} {found : List ℕ} where
     pub enter-length : length now ≡ length found
     enter-length = ap length (g .keeps) ∙ kept-length found (g .words)
 
-    pub enter-done : Enters text at NoEntry → AllEntries text from found now (record { count = count; next = at })
+    pub enter-done : Enters text at NoEntry
+        → AllEntries text from found now (record { count = count; next = at })
     enter-done over = record {
       bytes = g .bytes;
       words = g .words;
@@ -163,19 +189,23 @@ module _ {text : List ℕ} {from : ℕ} {found : List ℕ} where
     }
 
     module _ {word next : ℕ} (e : EntryRead text at word next) where
-      pub enter-turn : {then : List ℕ} → then ≡ set now count word → Entering text from found next (count + 1) then
-      enter-turn put =
-          let w : word ≡ wordOf (e .kind) (e .left) (e .right) = e .makes in
+      pub enter-turn : {then : List ℕ} → then ≡ set now count word
+          → Entering text from found next (count + 1) then
+      enter-turn stored =
+          let w : word ≡ entryWord (e .kind) (e .left) (e .right) = e .makes in
           record {
-            bytes = g .bytes ++ line entryWord (e .ended .list .fields);
-            words = g .words ++ wordOf (e .kind) (e .left) (e .right) ∷ [];
+            bytes = g .bytes ++ lineOf entryKey (e .ended .list .fields);
+            words = g .words ++ entryWord (e .kind) (e .left) (e .right) ∷ [];
             lines = another (g .lines) (e .ended .list .list);
-            whole =
-                g .whole
-                ∙ ap (λ l. g .bytes ++ l) (ended-line (e .ended))
-                ∙ sym (append-assoc (g .bytes) (line entryWord (e .ended .list .fields)) (drop next text));
+            whole = g .whole ∙ ap (λ l. g .bytes ++ l) (ended-line (e .ended))
+                ∙ sym (append-assoc (g .bytes) (lineOf entryKey (e .ended .list .fields)) (drop next text));
             past = omega (arith, g .past, e .past);
             within = e .within;
-            counted = omega (arith, g .counted, length-append (g .words) (wordOf (e .kind) (e .left) (e .right) ∷ []));
-            keeps = put ∙ (λ i. set (g .keeps i) (g .counted i) (w i)) ∙ kept-more found (g .words) (wordOf (e .kind) (e .left) (e .right));
+            counted = omega (
+              arith,
+              g .counted,
+              length-append (g .words) (entryWord (e .kind) (e .left) (e .right) ∷ []),
+            );
+            keeps = stored ∙ (λ i. set (g .keeps i) (g .counted i) (w i))
+                ∙ kept-more found (g .words) (entryWord (e .kind) (e .left) (e .right));
           }

@@ -1,3 +1,2 @@
 pub mod Texts
-pub mod Lists
-pub mod Questions
+pub mod inside

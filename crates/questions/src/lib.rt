@@ -1,17 +1,15 @@
 // The text of a question, read line by line: prefix, loop, entries, ask.
+use decimals::COMMA;
+use decimals::NEWLINE;
 use decimals::Numeral;
 use decimals::number;
 ghost use Prim.Native.Nat.{_≤_};
 ghost use mathlib.Core.Path.{_≡_};
 ghost use mathlib.Core.Bool.{true};
 ghost use lib.ListN.{length, set};
-ghost use Rattle.questions.specs.Texts.{prefixWord, loopWord, Commas, Letters};
-ghost use Rattle.questions.specs.Lists.{Keyword, Worded, Lists, Enters, Asks, AllEntries};
-ghost use Rattle.questions.specs.Questions.{Reads};
-
-const NEWLINE: u8 = 10;
-
-const COMMA: u8 = 44;
+ghost use Rattle.questions.specs.Texts.{prefixKey, loopKey, Commas, Letters};
+ghost use Rattle.questions.specs.inside.Lists.{Keyword, Worded, Lists, Enters, AskFound, AllEntries};
+ghost use Rattle.questions.specs.inside.Questions.{QuestionRead};
 
 // How many numbers a list has, and the place behind its newline.
 pub enum Listing {
@@ -21,14 +19,14 @@ pub enum Listing {
 
 // An entry's word, and the place behind its line.
 pub enum Entered {
-    Wrong,
-    Read(u32, usize),
+    NoEntry,
+    EntryAt(u32, usize),
 }
 
 // The entry and the position asked, and the place behind the line.
-pub enum Asked {
-    Wrong,
-    Read(usize, usize, usize),
+pub enum AskedLine {
+    NotAsked,
+    AskedAt(usize, usize, usize),
 }
 
 // How many lines of entries stand together, and the place behind them.
@@ -37,19 +35,20 @@ pub struct Entries {
     pub next: usize,
 }
 
-// What a text says: the first wrong line, or how many letters and entries it has, even those not kept, and what it asks.
-pub struct Question {
+// What a text says: the first wrong line, or how many letters and entries it has,
+// even those not kept, and what it asks.
+pub struct TextRead {
     pub wrong: bool,
     pub line: usize,
     pub prefix: usize,
-    pub again: usize,
+    pub looped: usize,
     pub entries: usize,
     pub entry: usize,
     pub position: usize,
 }
 
 // Keeps a number, if the buffer has the place.
-fn put(keep: &mut [u32], at: usize, n: u32)
+fn store(keep: &mut [u32], at: usize, n: u32)
     ensures { λ r. ⌜ now (keep .exit) ≡ set (now (keep .entry)) at n ⌝ }
 {
     if at < keep.len() {
@@ -89,7 +88,7 @@ fn commas(text: &[u8], from: usize, max: u32, keep: &mut [u32]) -> Listing
         if text.len() <= next {
             return Listing::Wrong;
         }
-        put(keep, count, n);
+        store(keep, count, n);
         count += 1;
         if text[next] == NEWLINE {
             return Listing::Read(count, next + 1);
@@ -104,7 +103,8 @@ fn commas(text: &[u8], from: usize, max: u32, keep: &mut [u32]) -> Listing
 // A line of a keyword and numbers.
 fn fields(text: &[u8], at: usize, word: &[u8], max: u32, keep: &mut [u32]) -> Listing
     requires { ⌜ at ≤ length (now text) ⌝ }
-    ensures { λ r. ⌜ Lists (Worded (now (word .entry)) (Commas max)) (now (text .entry)) at (now (keep .entry)) (now (keep .exit)) r ⌝ }
+    ensures { λ r. ⌜ Lists (Worded (now (word .entry)) (Commas max)) (now (text .entry)) at
+        (now (keep .entry)) (now (keep .exit)) r ⌝ }
 {
     if !begins(text, at, word) {
         return Listing::Wrong;
@@ -115,7 +115,8 @@ fn fields(text: &[u8], at: usize, word: &[u8], max: u32, keep: &mut [u32]) -> Li
 // A line of a keyword and letters, perhaps none.
 fn letters(text: &[u8], at: usize, word: &[u8], keep: &mut [u32]) -> Listing
     requires { ⌜ at ≤ length (now text) ⌝ }
-    ensures { λ r. ⌜ Lists (Worded (now (word .entry)) Letters) (now (text .entry)) at (now (keep .entry)) (now (keep .exit)) r ⌝ }
+    ensures { λ r. ⌜ Lists (Worded (now (word .entry)) Letters) (now (text .entry)) at (now (keep .entry))
+        (now (keep .exit)) r ⌝ }
 {
     if !begins(text, at, word) {
         return Listing::Wrong;
@@ -132,14 +133,16 @@ fn letters(text: &[u8], at: usize, word: &[u8], keep: &mut [u32]) -> Listing
 
 fn prefix_line(text: &[u8], at: usize, keep: &mut [u32]) -> Listing
     requires { ⌜ at ≤ length (now text) ⌝ }
-    ensures { λ r. ⌜ Lists (Worded prefixWord Letters) (now (text .entry)) at (now (keep .entry)) (now (keep .exit)) r ⌝ }
+    ensures { λ r. ⌜ Lists (Worded prefixKey Letters) (now (text .entry)) at (now (keep .entry))
+        (now (keep .exit)) r ⌝ }
 {
     letters(text, at, b"prefix=", keep)
 }
 
 fn loop_line(text: &[u8], at: usize, keep: &mut [u32]) -> Listing
     requires { ⌜ at ≤ length (now text) ⌝ }
-    ensures { λ r. ⌜ Lists (Worded loopWord Letters) (now (text .entry)) at (now (keep .entry)) (now (keep .exit)) r ⌝ }
+    ensures { λ r. ⌜ Lists (Worded loopKey Letters) (now (text .entry)) at (now (keep .entry))
+        (now (keep .exit)) r ⌝ }
 {
     letters(text, at, b"loop=", keep)
 }
@@ -150,26 +153,26 @@ fn entry_line(text: &[u8], at: usize) -> Entered
 {
     let mut keep = [0u32; 3];
     let Listing::Read(count, next) = fields(text, at, b"entry=", 255, &mut keep) else {
-        return Entered::Wrong;
+        return Entered::NoEntry;
     };
     if count != 3 {
-        return Entered::Wrong;
+        return Entered::NoEntry;
     }
-    Entered::Read(keep[0] * 65536 + keep[1] * 256 + keep[2], next)
+    Entered::EntryAt(keep[0] * 65536 + keep[1] * 256 + keep[2], next)
 }
 
-fn ask_line(text: &[u8], at: usize) -> Asked
+fn ask_line(text: &[u8], at: usize) -> AskedLine
     requires { ⌜ at ≤ length (now text) ⌝ }
-    ensures { λ r. ⌜ Asks (now (text .entry)) at r ⌝ }
+    ensures { λ r. ⌜ AskFound (now (text .entry)) at r ⌝ }
 {
     let mut keep = [0u32; 2];
     let Listing::Read(count, next) = fields(text, at, b"ask=", 65535, &mut keep) else {
-        return Asked::Wrong;
+        return AskedLine::NotAsked;
     };
     if count != 2 {
-        return Asked::Wrong;
+        return AskedLine::NotAsked;
     }
-    Asked::Read(keep[0] as usize, keep[1] as usize, next)
+    AskedLine::AskedAt(keep[0] as usize, keep[1] as usize, next)
 }
 
 // All lines of entries from a place on.
@@ -180,23 +183,31 @@ fn entry_lines(text: &[u8], from: usize, table: &mut [u32]) -> Entries
     let mut at = from;
     let mut count = 0;
     loop {
-        let Entered::Read(word, next) = entry_line(text, at) else {
+        let Entered::EntryAt(word, next) = entry_line(text, at) else {
             return Entries { count, next: at };
         };
-        put(table, count, word);
+        store(table, count, word);
         count += 1;
         at = next;
     }
 }
 
-fn refused(line: usize) -> Question
-    ensures { λ r. ⌜ r ≡ record { wrong = true; line = line; prefix = 0; again = 0; entries = 0; entry = 0; position = 0 } ⌝ }
+fn wrong_at(line: usize) -> TextRead
+    ensures { λ r. ⌜ r ≡ record {
+      wrong = true;
+      line = line;
+      prefix = 0;
+      looped = 0;
+      entries = 0;
+      entry = 0;
+      position = 0;
+    } ⌝ }
 {
-    Question {
+    TextRead {
         wrong: true,
         line,
         prefix: 0,
-        again: 0,
+        looped: 0,
         entries: 0,
         entry: 0,
         position: 0,
@@ -204,33 +215,33 @@ fn refused(line: usize) -> Question
 }
 
 // Reads the text of a question. Of each list of letters the first 49 are kept, of the entries the first 33.
-pub fn read(
+pub fn read_text(
     text: &[u8],
     prefix: &mut [u32; 49],
-    again: &mut [u32; 49],
+    looped: &mut [u32; 49],
     table: &mut [u32; 33],
-) -> Question
-    ensures { λ r. ⌜ Reads (now (text .entry)) (now (prefix .entry)) (now (prefix .exit)) (now (again .entry)) (now (again .exit))
-        (now (table .entry)) (now (table .exit)) r ⌝ }
+) -> TextRead
+    ensures { λ r. ⌜ QuestionRead (now (text .entry)) (now (prefix .entry)) (now (prefix .exit))
+        (now (looped .entry)) (now (looped .exit)) (now (table .entry)) (now (table .exit)) r ⌝ }
 {
     let Listing::Read(letters, second) = prefix_line(text, 0, prefix) else {
-        return refused(1);
+        return wrong_at(1);
     };
-    let Listing::Read(laps, third) = loop_line(text, second, again) else {
-        return refused(2);
+    let Listing::Read(laps, third) = loop_line(text, second, looped) else {
+        return wrong_at(2);
     };
     let found = entry_lines(text, third, table);
-    let Asked::Read(entry, position, end) = ask_line(text, found.next) else {
-        return refused(found.count + 3);
+    let AskedLine::AskedAt(entry, position, end) = ask_line(text, found.next) else {
+        return wrong_at(found.count + 3);
     };
     if end < text.len() {
-        return refused(found.count + 4);
+        return wrong_at(found.count + 4);
     }
-    Question {
+    TextRead {
         wrong: false,
         line: 0,
         prefix: letters,
-        again: laps,
+        looped: laps,
         entries: found.count,
         entry,
         position,

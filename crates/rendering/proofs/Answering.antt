@@ -1,20 +1,19 @@
 -- The texts of the answers, placed line by line.
--- Assumes nothing.
 use Prim.Native.Nat.{ℕ, _+_, _<_, _≤_}
 use mathlib.Core.Path.{_≡_, sym, ap, subst, _∙_}
 use mathlib.Core.List.{List, _++_}
 use native.Mathlib.Omega.{arith}
 use lib.ListN.{length, take, length-append}
 use Rattle.schedule.specs.Figures.{Figures}
-use Rattle.trees.specs.Plans.{signOf}
+use Rattle.trees.specs.Verdicts.{signOf}
 use Rattle.trees.specs.declared.Verdict.{Verdict}
 use Rattle.trees.specs.declared.Verdict.the-variants.{Holds, Violated}
-use Rattle.chickvessel.specs.Answers.{figuresOf}
-use Rattle.chickvessel.specs.declared.Outcome.{Outcome}
-use Rattle.chickvessel.specs.declared.Outcome.the-variants.{Refused, NotValid, Judged}
-use Rattle.chickvessel.proofs.Numbers.{refusal-number}
-use Rattle.rendering.specs.Texts.{refusedIs, lineIs, sizeIs, NumberLine, numberLine, NodeLines, VerdictLine, Rendered, refused, judged}
-use Rattle.rendering.specs.Texts.{WrongText, wrongText}
+use Rattle.asking.specs.Answers.{figuresOf}
+use Rattle.asking.specs.declared.Outcome.{Outcome}
+use Rattle.asking.specs.declared.Outcome.the-variants.{Refused, NotValid, Judged}
+use Rattle.asking.proofs.Numbers.{refusal-number}
+use Rattle.rendering.specs.Texts.{refusedIs, lineIs, sizeIs, NumberLine, numberLine, NodeLines}
+use Rattle.rendering.specs.Texts.{VerdictLine, Rendered, refused, judged, WrongText, wrongText}
 use Rattle.rendering.specs.Placed.{Placed}
 use Rattle.rendering.proofs.Placing.{placed-as, placed-then}
 use Rattle.rendering.proofs.Lines.{Then, then, field-length}
@@ -35,18 +34,22 @@ verdict-is (Refused x) e = absurd (omega (arith, e, refusal-number x .0))
 verdict-is (NotValid p) e = absurd (omega (arith, e))
 verdict-is (Judged v n) e = sign-is v
 
-number-line-length : {label : List ℕ} {n : ℕ} {bs : List ℕ} → NumberLine label n bs → n < 4294967296 → length bs ≤ length label + 11
-number-line-length {label} (numberLine {ds} d) lt = omega (arith, length-append label ds, field-length 9 d (omega (arith, lt)))
+number-line-length : {label : List ℕ} {n : ℕ} {bs : List ℕ} → NumberLine label n bs → n < 4294967296
+    → length bs ≤ length label + 11
+number-line-length {label} (numberLine {ds} d) lt =
+    omega (arith, length-append label ds, field-length 9 d (omega (arith, lt)))
 
-pub number-line-most : {label : List ℕ} {n at next : ℕ} {found left : List ℕ} → Placed (NumberLine label n) at found left next → n < 4294967296
-    → next ≤ at + length label + 11
+pub number-line-most : {label : List ℕ} {n at next : ℕ} {found left : List ℕ}
+    → Placed (NumberLine label n) at found left next → n < 4294967296 → next ≤ at + length label + 11
 number-line-most p lt = omega (arith, p .ends, number-line-length (p .such) lt)
 
 -- The figures of an outcome, as they were made, and the lines of its text.
 module _ (o : Outcome) {f : Figures} (same : f ≡ figuresOf o) (tree : List ℕ) where
-  outcome-placed : {at next : ℕ} {found left : List ℕ} → Placed (Rendered f (take (f .size) tree)) at found left next
+  outcome-placed : {at next : ℕ} {found left : List ℕ}
+      → Placed (Rendered f (take (f .size) tree)) at found left next
       → Placed (Rendered (figuresOf o) (take (figuresOf o .size) tree)) at found left next
-  outcome-placed {at} {next} {found} {left} p = subst (λ g. Placed (Rendered g (take (g .size) tree)) at found left next) same p
+  outcome-placed {at} {next} {found} {left} p =
+      subst (λ g. Placed (Rendered g (take (g .size) tree)) at found left next) same p
 
   pub refused-placed : {at next : ℕ} {found left : List ℕ} → ¬ (f .number ≡ 0)
       → Placed (NumberLine refusedIs (f .number)) at found left next
@@ -59,15 +62,19 @@ module _ (o : Outcome) {f : Figures} (same : f ≡ figuresOf o) (tree : List ℕ
   verdict-known = subst (λ g. g .number ≡ 0 → (1 ≤ g .verdict) × (g .verdict ≤ 2)) (sym same) (verdict-is o)
 
   pub judged-placed : {at second third next : ℕ} {found m n left : List ℕ} → f .number ≡ 0
-      → Placed (VerdictLine (f .verdict)) at found m second → Placed (NumberLine sizeIs (f .size)) second m n third
+      → Placed (VerdictLine (f .verdict)) at found m second
+      → Placed (NumberLine sizeIs (f .size)) second m n third
       → Placed (NodeLines (take (f .size) tree)) third n left next
       → Placed (Rendered (figuresOf o) (take (figuresOf o .size) tree)) at found left next
-  judged-placed zero v s l = outcome-placed (placed-then judged-is v (placed-then (λ xs ys p q. then p q) s l))
+  judged-placed zero v s l =
+      outcome-placed (placed-then judged-is v (placed-then (λ xs ys p q. then p q) s l))
     where
       judged-is : (xs ys : List ℕ) → VerdictLine (f .verdict) xs
-          → Then (NumberLine sizeIs (f .size)) (NodeLines (take (f .size) tree)) ys → Rendered f (take (f .size) tree) (xs ++ ys)
+          → Then (NumberLine sizeIs (f .size)) (NodeLines (take (f .size) tree)) ys
+          → Rendered f (take (f .size) tree) (xs ++ ys)
       judged-is xs ys v′ (then s′ l′) = judged zero v′ s′ l′
 
-pub wrong-placed : {line middle next : ℕ} {found between left : List ℕ} → Placed (NumberLine refusedIs 13) 0 found between middle
+pub wrong-placed : {line middle next : ℕ} {found between left : List ℕ}
+    → Placed (NumberLine refusedIs 13) 0 found between middle
     → Placed (NumberLine lineIs line) middle between left next → Placed (WrongText line) 0 found left next
 wrong-placed = placed-then (λ xs ys p q. wrongText p q)

@@ -3,7 +3,7 @@ use Prim.Native.Nat.{ℕ, _+_, _≤_}
 use mathlib.Core.Path.{_≡_}
 use mathlib.Core.List.{List}
 use lib.ListN.{length}
-use Rattle.writing.specs.Writes.{put}
+use Rattle.schedule.specs.Buffers.{put}
 
 pub record Placed (P : List ℕ → Type 0) (at : ℕ) (found left : List ℕ) (next : ℕ) : Type 0 where
   pub bytes : List ℕ

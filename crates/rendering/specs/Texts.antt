@@ -4,14 +4,7 @@ use mathlib.Core.Path.{_≡_}
 use mathlib.Core.List.{List, [], _∷_, _++_}
 use Rattle.schedule.specs.Figures.{Figures}
 use Rattle.trees.specs.Nodes.{nodeOf}
-use Rattle.decimals.specs.Decimals.{Decimal}
-
--- ","
-abbrev pub comma : ℕ
-comma = 44
-
-abbrev pub newline : ℕ
-newline = 10
+use Rattle.decimals.specs.Decimals.{Decimal, comma, newline}
 
 -- "refused="
 abbrev pub refusedIs : List ℕ
@@ -51,28 +44,32 @@ pub data NumberLine (label : List ℕ) (n : ℕ) : List ℕ → Type 0 where
 
 -- The line of a tree's word: rule, atom, number.
 pub data NodeLine (word : ℕ) : List ℕ → Type 0 where
-  nodeLine : {rs bs ns : List ℕ} → Field (nodeOf word .rule) comma rs → Field (nodeOf word .atom) comma bs → Field (nodeOf word .number) newline ns
-      → NodeLine word (nodeIs ++ (rs ++ (bs ++ ns)))
+  nodeLine : {rs bs ns : List ℕ} → Field (nodeOf word .rule) comma rs → Field (nodeOf word .atom) comma bs
+      → Field (nodeOf word .number) newline ns → NodeLine word (nodeIs ++ (rs ++ (bs ++ ns)))
 
 -- A line a word, in order.
 pub data NodeLines : List ℕ → List ℕ → Type 0 where
   none : NodeLines [] []
-  more : {w : ℕ} {ws line lines : List ℕ} → NodeLine w line → NodeLines ws lines → NodeLines (w ∷ ws) (line ++ lines)
+  more : {w : ℕ} {ws line lines : List ℕ} → NodeLine w line → NodeLines ws lines
+      → NodeLines (w ∷ ws) (line ++ lines)
 
 -- The line of a verdict, 1 or 2.
 pub data VerdictLine (v : ℕ) : List ℕ → Type 0 where
   holds : v ≡ 1 → VerdictLine v (verdictIs ++ (holdsText ++ (newline ∷ [])))
   violated : v ≡ 2 → VerdictLine v (verdictIs ++ (violatedText ++ (newline ∷ [])))
 
--- An answer and the words of its tree: the one line of a refusal, or verdict, size and tree. (13 has a second line, see below.)
+-- An answer and the words of its tree: the one line of a refusal, or verdict, size and tree.
+-- (13 has a second line, see below.)
 pub data Rendered (f : Figures) (words : List ℕ) : List ℕ → Type 0 where
-  refused : {bs : List ℕ} → 1 ≤ f .number → ¬ (f .number ≡ 13) → NumberLine refusedIs (f .number) bs → Rendered f words bs
-  judged : {vs ss ls : List ℕ} → f .number ≡ 0 → VerdictLine (f .verdict) vs → NumberLine sizeIs (f .size) ss → NodeLines words ls
-      → Rendered f words (vs ++ (ss ++ ls))
+  refused : {bs : List ℕ} → 1 ≤ f .number → ¬ (f .number ≡ 13) → NumberLine refusedIs (f .number) bs
+      → Rendered f words bs
+  judged : {vs ss ls : List ℕ} → f .number ≡ 0 → VerdictLine (f .verdict) vs → NumberLine sizeIs (f .size) ss
+      → NodeLines words ls → Rendered f words (vs ++ (ss ++ ls))
 
 -- Refusal 13, with its line.
 pub data WrongText (line : ℕ) : List ℕ → Type 0 where
-  wrongText : {rs ls : List ℕ} → NumberLine refusedIs 13 rs → NumberLine lineIs line ls → WrongText line (rs ++ ls)
+  wrongText : {rs ls : List ℕ} → NumberLine refusedIs 13 rs → NumberLine lineIs line ls
+      → WrongText line (rs ++ ls)
 
 -- Refusal 14.
 abbrev pub LongText : List ℕ → Type 0

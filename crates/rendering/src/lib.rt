@@ -1,21 +1,21 @@
 // The output of the text program: an answer and its tree as lines of text, in the caller's bytes.
-use chickvessel::Outcome;
-use chickvessel::answer_of;
+use asking::Outcome;
+use asking::answer_of;
+use decimals::COMMA;
+use decimals::NEWLINE;
 ghost use mathlib.Core.Path.{_≡_};
 ghost use Prim.Native.Nat.{_+_, _*_, _≤_, _<_};
 ghost use lib.ListN.{length, take};
 ghost use Rattle.decimals.specs.Decimals.{Decimal};
-ghost use Rattle.chickvessel.specs.Answers.{figuresOf};
-ghost use Rattle.chickvessel.specs.Checked.{maxWords};
-ghost use Rattle.rendering.specs.Texts.{Field, NumberLine, NodeLine, NodeLines, VerdictLine, Rendered, WrongText, LongText};
+ghost use Rattle.asking.specs.Answers.{figuresOf};
+ghost use Rattle.schedule.specs.Limits.{maxWords};
+ghost use Rattle.rendering.specs.Texts.{Field, NumberLine, NodeLine, NodeLines, VerdictLine, Rendered};
+ghost use Rattle.rendering.specs.Texts.{WrongText, LongText};
 ghost use Rattle.rendering.specs.Placed.{Placed};
 
-// The bytes lent for a text: 4,095 lines of at most 19 bytes, the two lines before them, and room for any number of 32 bits behind each place.
+// The bytes lent for a text: 4,095 lines of at most 19 bytes, the two lines before them, and room for any
+// number of 32 bits behind each place.
 pub const MAX_OUTPUT: usize = 77845;
-
-const COMMA: u8 = 44;
-
-const NEWLINE: u8 = 10;
 
 // "refused="
 const REFUSED: [u8; 8] = [114, 101, 102, 117, 115, 101, 100, 61];
@@ -38,7 +38,8 @@ const SIZE: [u8; 5] = [115, 105, 122, 101, 61];
 // "node="
 const NODE: [u8; 5] = [110, 111, 100, 101, 61];
 
-// Writes a number's digits from a place on; answers the place behind them. It calls itself for the digits before the last.
+// Writes a number's digits from a place on; answers the place behind them.
+// It calls itself for the digits before the last.
 fn decimal(out: &mut [u8], at: usize, n: u32) -> usize
     requires { ⌜ at + 10 ≤ length (now out) ⌝ }
     ensures { λ r. ⌜ Placed (λ ds. Decimal ds n) at (now (out .entry)) (now (out .exit)) r ⌝ }
@@ -99,7 +100,8 @@ fn node_line(out: &mut [u8], at: usize, word: u32) -> usize
 // Writes the lines of a tree's words.
 fn node_lines(out: &mut [u8], at: usize, tree: &[u32], size: usize) -> usize
     requires { ⌜ (size ≤ length (now tree)) × (at + size * 19 + 5 ≤ length (now out)) ⌝ }
-    ensures { λ r. ⌜ Placed (NodeLines (take size (now (tree .entry)))) at (now (out .entry)) (now (out .exit)) r ⌝ }
+    ensures { λ r. ⌜ Placed (NodeLines (take size (now (tree .entry)))) at (now (out .entry))
+        (now (out .exit)) r ⌝ }
 {
     let mut next = at;
     let mut k = 0;
@@ -113,7 +115,8 @@ fn node_lines(out: &mut [u8], at: usize, tree: &[u32], size: usize) -> usize
 // Writes the line of a verdict figure.
 fn verdict_line(out: &mut [u8], at: usize, verdict: u32) -> usize
     requires { ⌜ (1 ≤ verdict) × (verdict ≤ 2) × (at + 17 ≤ length (now out)) ⌝ }
-    ensures { λ r. ⌜ Placed (VerdictLine verdict) at (now (out .entry)) (now (out .exit)) r × (r ≤ at + 17) ⌝ }
+    ensures { λ r. ⌜ Placed (VerdictLine verdict) at (now (out .entry)) (now (out .exit)) r
+        × (r ≤ at + 17) ⌝ }
 {
     let label = VERDICT;
     let next = copy(out, at, &label);
@@ -128,7 +131,9 @@ fn verdict_line(out: &mut [u8], at: usize, verdict: u32) -> usize
 // Writes the text of an answer and its tree to the front; answers its length.
 pub fn rendered(out: &mut [u8; MAX_OUTPUT], outcome: Outcome, tree: &[u32]) -> usize
     requires { ⌜ (figuresOf outcome .size ≤ maxWords) × (figuresOf outcome .size ≤ length (now tree)) ⌝ }
-    ensures { λ r. ⌜ Placed (Rendered (figuresOf outcome) (take (figuresOf outcome .size) (now (tree .entry)))) 0 (now (out .entry)) (now (out .exit)) r ⌝ }
+    ensures { λ r. ⌜ Placed
+        (Rendered (figuresOf outcome) (take (figuresOf outcome .size) (now (tree .entry)))) 0
+        (now (out .entry)) (now (out .exit)) r ⌝ }
 {
     let answer = answer_of(outcome);
     let number = answer.number;

@@ -1,5 +1,4 @@
 -- The record's words as a copy of the list: how a turn of the loop adds one, and what the whole copy is.
--- Assumes nothing.
 use mathlib.Core.Path.{_≡_, sym, ap, _∙_}
 use mathlib.Core.List.{List, _++_}
 use Prim.Native.Nat.{ℕ, zero, suc, _+_, _-_, _<_, _≤_}
@@ -17,12 +16,12 @@ blank = replicate maxEntries 0
 abbrev pub copied : List ℕ → ℕ → List ℕ
 copied list e = paste blank 0 list e
 
-pub copied-none : (list : List ℕ) → blank ≡ copied list 0
-copied-none list = paste-zero blank 0 list
+pub read-none : (list : List ℕ) → blank ≡ copied list 0
+read-none list = paste-zero blank 0 list
 
 module _ (list : List ℕ) (few : length list ≤ maxEntries) where
-  pub copied-more : (e : ℕ) → e < length list → set (copied list e) e (getD list e 0) ≡ copied list (e + 1)
-  copied-more e lt =
+  pub read-more : (e : ℕ) → e < length list → set (copied list e) e (getD list e 0) ≡ copied list (e + 1)
+  read-more e lt =
       ap (λ k. set (copied list e) k (getD list e 0)) (sym (zero-add e))
       ∙ paste-suc blank 0 list e 0 (rw (zero-add, length-replicate) (omega arith)) lt
       ∙ ap (copied list) (sym (add-one e))
@@ -32,7 +31,8 @@ drop-replicate zero n = ap (λ m. replicate m 0) (sym (sub-zero n))
 drop-replicate (suc k) zero = ap (λ m. replicate m 0) (sym (zero-sub (suc k)))
 drop-replicate (suc k) (suc n) = drop-replicate k n ∙ ap (λ m. replicate m 0) (sym (suc-sub-suc n k))
 
-pub copied-all : (list : List ℕ) (e : ℕ) → e ≡ length list → copied list e ≡ list ++ replicate (maxEntries - length list) 0
+pub copied-all : (list : List ℕ) (e : ℕ) → e ≡ length list
+    → copied list e ≡ list ++ replicate (maxEntries - length list) 0
 copied-all list e p =
     ap (copied list) p
     ∙ ap (λ l. l ++ drop (0 + length list) blank) (take-all (length list) list (omega arith))

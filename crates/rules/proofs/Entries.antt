@@ -1,5 +1,5 @@
--- The kind table's rows, a law a return; what an entry is, by its operator; and its parts are earlier entries.
--- Assumes nothing.
+-- The kind table's rows, a law a return; what an entry is, by its operator;
+-- and its parts are earlier entries.
 use mathlib.Core.Path.{_≡_, refl, ap, _∙_}
 use mathlib.Core.Bool.{Bool, true, false, cond, _&&_, false≢true}
 use Prim.Native.Nat.{ℕ, _/_, _%_, _<_, _≤_}
@@ -13,6 +13,7 @@ use Rattle.rules.specs.declared.Unary.{Unary}
 use Rattle.rules.specs.declared.Unary.the-variants.{Not}
 use Rattle.rules.specs.declared.Binary.{Binary}
 use Rattle.rules.specs.declared.Binary.the-variants.{Until}
+use Rattle.schedule.proofs.Tests.{and-both}
 
 module _ (bound l r : ℕ) where
   pub alone-below : l < bound → eqb r 0 ≡ isAlone bound l r
@@ -76,7 +77,8 @@ pub two-is : {x : Entry} {op known : Binary} {l r : ℕ} → x ≡ Two op l r �
 two-is {l} {r} p q = p ∙ ap (λ o. Two o l r) q
 
 -- a property of a choice, from the choice made
-pub cond-elim : {A : Type 0} (P : A → Type 0) (t : Bool) {x y : A} → (t ≡ true → P x) → (t ≡ false → P y) → P (cond t x y)
+pub cond-elim : {A : Type 0} (P : A → Type 0) (t : Bool) {x y : A} → (t ≡ true → P x) → (t ≡ false → P y)
+    → P (cond t x y)
 cond-elim P true f g = f refl
 cond-elim P false f g = g refl
 
@@ -86,11 +88,6 @@ PartsBelow i (Atom a) = Unit
 PartsBelow i (One op l) = l < i
 PartsBelow i (Two op l r) = (l < i) × (r < i)
 PartsBelow i Broken = Unit
-
-pub and-both : (a b : Bool) → (a && b) ≡ true → (a ≡ true) × (b ≡ true)
-and-both true true e = (refl, refl)
-and-both true false e = (refl, e)
-and-both false b e = (e, absurd (false≢true e))
 
 alone-is : (i l r : ℕ) → isAlone i l r ≡ true → l < i
 unfolding isAlone
@@ -110,6 +107,7 @@ parts-earlier i w =
     let l = w / 256 % 256 in
     let r = w % 256 in
     cond-elim (PartsBelow i) (eqb k 0) (λ _. cond-elim (PartsBelow i) (isAlone 32 l r) (λ _. tt) (λ _. tt))
-    (λ _. cond-elim (PartsBelow i) (eqb k 1) (λ _. cond-elim (PartsBelow i) (isAlone i l r) (λ e. alone-is i l r e) (λ _. tt))
+    (λ _. cond-elim (PartsBelow i) (eqb k 1)
+    (λ _. cond-elim (PartsBelow i) (isAlone i l r) (λ e. alone-is i l r e) (λ _. tt))
     (λ _. cond-elim (PartsBelow i) (areEarlier i l r && (leb 2 k && leb k 5))
     (λ e. earlier-are i l r (and-both (areEarlier i l r) (leb 2 k && leb k 5) e .0)) (λ _. tt)))

@@ -2,7 +2,6 @@ pub mod Below
 pub mod Entries
 pub mod Unrolls
 pub mod Rows
-pub mod Heights
 pub mod Copied
 pub mod Tested
 pub mod Neighbours

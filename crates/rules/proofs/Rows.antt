@@ -1,5 +1,5 @@
--- The kind table row by row: the formula of an entry whose word has the kind, from the formulas of the entries that it names.
--- Assumes nothing.
+-- The kind table row by row: the formula of an entry whose word has the kind,
+-- from the formulas of the entries that it names.
 use mathlib.Core.Path.{_≡_, ap, _∙_}
 use mathlib.Core.List.{List}
 use Prim.Native.Nat.{ℕ, _/_, _%_, _<_, _≤_}
@@ -41,28 +41,41 @@ module _ (table : List ℕ) (e : ℕ) where
       is : entryAt table e ≡ One Not left
       is = simp (ne-eqb kind 0 (λ z. omega (arith, z, k)), eq-eqb kind 1 k, lt-ltb left e l, eq-eqb right 0 r)
 
-  kind-two : 2 ≤ kind → kind ≤ 5 → left < e → right < e → formulaOf table e ≡ joined (binaryOf kind) (formulaOf table left) (formulaOf table right)
+  kind-two : 2 ≤ kind → kind ≤ 5 → left < e → right < e
+      → formulaOf table e ≡ joined (binaryOf kind) (formulaOf table left) (formulaOf table right)
   unfolding entryOf entryFrom pairOf areEarlier
   kind-two low high l r = by-entry (Two (binaryOf kind) left right) is
     where
       is : entryAt table e ≡ Two (binaryOf kind) left right
-      is = simp (ne-eqb kind 0 (λ z. omega (arith, z, low)), ne-eqb kind 1 (λ z. omega (arith, z, low)), lt-ltb left e l, lt-ltb right e r, le-leb 2 kind low, le-leb kind 5 high)
+      is = simp (
+        ne-eqb kind 0 (λ z. omega (arith, z, low)),
+        ne-eqb kind 1 (λ z. omega (arith, z, low)),
+        lt-ltb left e l,
+        lt-ltb right e r,
+        le-leb 2 kind low,
+        le-leb kind 5 high,
+      )
 
   -- of two earlier entries, by the kind
   module _ (n : ℕ) (k : kind ≡ n) (l : left < e) (r : right < e) where
-    pub kind-pair : 2 ≤ n → n ≤ 5 → formulaOf table e ≡ joined (binaryOf n) (formulaOf table left) (formulaOf table right)
+    pub kind-pair : 2 ≤ n → n ≤ 5
+        → formulaOf table e ≡ joined (binaryOf n) (formulaOf table left) (formulaOf table right)
     kind-pair low high =
         kind-two (omega (arith, k, low)) (omega (arith, k, high)) l r
         ∙ ap (λ m. joined (binaryOf m) (formulaOf table left) (formulaOf table right)) k
 
-  pub kind-or : kind ≡ 2 → left < e → right < e → formulaOf table e ≡ orᶠ (formulaOf table left) (formulaOf table right)
+  pub kind-or : kind ≡ 2 → left < e → right < e
+      → formulaOf table e ≡ orᶠ (formulaOf table left) (formulaOf table right)
   kind-or k l r = kind-pair 2 k l r (omega arith) (omega arith)
 
-  pub kind-and : kind ≡ 3 → left < e → right < e → formulaOf table e ≡ andᶠ (formulaOf table left) (formulaOf table right)
+  pub kind-and : kind ≡ 3 → left < e → right < e
+      → formulaOf table e ≡ andᶠ (formulaOf table left) (formulaOf table right)
   kind-and k l r = kind-pair 3 k l r (omega arith) (omega arith)
 
-  pub kind-since : kind ≡ 4 → left < e → right < e → formulaOf table e ≡ since (formulaOf table left) (formulaOf table right)
+  pub kind-since : kind ≡ 4 → left < e → right < e
+      → formulaOf table e ≡ since (formulaOf table left) (formulaOf table right)
   kind-since k l r = kind-pair 4 k l r (omega arith) (omega arith)
 
-  pub kind-until : kind ≡ 5 → left < e → right < e → formulaOf table e ≡ until (formulaOf table left) (formulaOf table right)
+  pub kind-until : kind ≡ 5 → left < e → right < e
+      → formulaOf table e ≡ until (formulaOf table left) (formulaOf table right)
   kind-until k l r = kind-pair 5 k l r (omega arith) (omega arith)

@@ -1,5 +1,4 @@
 -- What is tested of all entries, entry by entry.
--- Assumes nothing.
 use mathlib.Core.Path.{_≡_}
 use mathlib.Core.Bool.{true}
 use mathlib.Core.List.{List}
@@ -10,8 +9,10 @@ use Rattle.rules.specs.Tables.{keptAt, keepsAll}
 use Rattle.rules.specs.Low.{lowAt, lowAll}
 use Rattle.rules.proofs.Below.{all-exact}
 
--- Refusal 4 is not given exactly if every entry keeps the kind table, and 5 exactly if every entry's heights are low.
-pub keeps-exact : (table : List ℕ) → (keepsAll table ≡ true) ↔ ((e : ℕ) → e < length table → keptAt table e ≡ true)
+-- Refusal 4 is not given exactly if every entry keeps the kind table,
+-- and 5 exactly if every entry's heights are low.
+pub keeps-exact : (table : List ℕ)
+    → (keepsAll table ≡ true) ↔ ((e : ℕ) → e < length table → keptAt table e ≡ true)
 unfolding keepsAll
 keeps-exact table = all-exact (keptAt table) (length table)
 

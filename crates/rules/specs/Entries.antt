@@ -35,8 +35,8 @@ entryFrom i k l r =
 unfoldable pub entryOf : ℕ → ℕ → Entry
 entryOf i w = entryFrom i (w / 65536) (w / 256 % 256) (w % 256)
 
-abbrev pub kept : Entry → Bool
-kept (Atom a) = true
-kept (One op l) = true
-kept (Two op l r) = true
-kept Broken = false
+abbrev pub isKept : Entry → Bool
+isKept (Atom a) = true
+isKept (One op l) = true
+isKept (Two op l r) = true
+isKept Broken = false

@@ -20,7 +20,8 @@ abbrev pub untilAdds : Side → ℕ
 untilAdds Past = 0
 untilAdds Future = 1
 
--- The greatest height of the parts, plus 1 for since on the past side and for until on the future side; an atom has 0.
+-- The greatest height of the parts, plus 1 for since on the past side and for until on
+-- the future side; an atom has 0.
 abbrev pub height : Side → Formula → ℕ
 height s (atom a) = 0
 height s (notᶠ f) = height s f

@@ -1,6 +1,7 @@
 pub mod Formula
 pub mod Meaning
 pub mod Entries
+pub mod Words
 pub mod Tables
-pub mod Heights
 pub mod Low
+pub mod inside

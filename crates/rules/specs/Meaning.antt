@@ -9,23 +9,24 @@ abbrev pub HasAtom : ℕ → ℕ → Type 0
 HasAtom letter a = letter / 2 ^ a % 2 ≡ 1
 
 -- (a since b) holds at i if b holds at some place ≤ i, and a at every k with place < k ≤ i.
-pub record Since (A B : ℕ → Type 0) (i : ℕ) : Type 0 where
+pub record SinceMeant (A B : ℕ → Type 0) (i : ℕ) : Type 0 where
   pub place : ℕ
   pub order : place ≤ i
   pub there : B place
   pub between : (k : ℕ) → place < k → k ≤ i → A k
 
--- (a until b) holds at i if b holds at some place ≥ i, and a at every k with i ≤ k < place. The place may lie anywhere.
-pub record Until (A B : ℕ → Type 0) (i : ℕ) : Type 0 where
+-- (a until b) holds at i if b holds at some place ≥ i, and a at every k with i ≤ k <
+-- place. The place may lie anywhere.
+pub record UntilMeant (A B : ℕ → Type 0) (i : ℕ) : Type 0 where
   pub place : ℕ
   pub order : i ≤ place
   pub there : B place
   pub between : (k : ℕ) → i ≤ k → k < place → A k
 
-abbrev pub Holds : (ℕ → ℕ) → Formula → ℕ → Type 0
-Holds word (atom a) i = HasAtom (word i) a
-Holds word (notᶠ f) i = ¬ (Holds word f i)
-Holds word (orᶠ f g) i = Holds word f i ⊎ Holds word g i
-Holds word (andᶠ f g) i = Holds word f i × Holds word g i
-Holds word (since f g) i = Since (Holds word f) (Holds word g) i
-Holds word (until f g) i = Until (Holds word f) (Holds word g) i
+abbrev pub Meant : (ℕ → ℕ) → Formula → ℕ → Type 0
+Meant word (atom a) i = HasAtom (word i) a
+Meant word (notᶠ f) i = ¬ (Meant word f i)
+Meant word (orᶠ f g) i = Meant word f i ⊎ Meant word g i
+Meant word (andᶠ f g) i = Meant word f i × Meant word g i
+Meant word (since f g) i = SinceMeant (Meant word f) (Meant word g) i
+Meant word (until f g) i = UntilMeant (Meant word f) (Meant word g) i

@@ -1,14 +1,12 @@
-// Rule tables: what an entry says, the record that a list is read into, the heights, and what is tested of all entries.
+// Rule tables: what an entry says, whether all keep the kind table, and the record that a list is read into.
 use schedule::Schedule;
 ghost use mathlib.Core.Path.{_≡_};
-ghost use Prim.Native.Nat.{_≤_, _<_, max};
+ghost use Prim.Native.Nat.{_≤_, _<_};
 ghost use lib.ListN.{length};
 ghost use Rattle.schedule.specs.Limits.{maxEntries};
-ghost use Rattle.rules.specs.Formula.{height, sinceAdds, untilAdds};
-ghost use Rattle.rules.specs.Entries.{entryOf, isAlone, areEarlier, binaryOf, pairOf, kept};
-ghost use Rattle.rules.specs.Tables.{entryAt, formulaOf, keepsAll, tableOf};
-ghost use Rattle.rules.specs.Low.{lowAt, lowAll};
-ghost use Rattle.rules.specs.Heights.{addsOf, partsOf};
+ghost use Rattle.rules.specs.Entries.{entryOf, isAlone, areEarlier, binaryOf, pairOf, isKept};
+ghost use Rattle.rules.specs.Tables.{entryAt, keepsAll};
+ghost use Rattle.rules.specs.inside.Records.{tableOf};
 
 // Atoms of a letter: its bits.
 const ATOMS: usize = 32;
@@ -85,7 +83,7 @@ fn pair(index: usize, kind: u32, left: usize, right: usize) -> Entry
 }
 
 // The entry of a word at its index.
-pub fn decode(index: usize, word: u32) -> Entry
+pub fn entry_of(index: usize, word: u32) -> Entry
     ensures { λ r. ⌜ r ≡ entryOf index word ⌝ }
 {
     let kind = word / 65536;
@@ -107,86 +105,19 @@ pub fn decode(index: usize, word: u32) -> Entry
 }
 
 // The entry at an index of a table.
-pub fn entry_at(words: &[u32], e: usize) -> Entry
-    ensures { λ r. ⌜ r ≡ entryAt (now (words .entry)) e ⌝ }
+pub fn entry_at(table: &[u32], entry: usize) -> Entry
+    ensures { λ r. ⌜ r ≡ entryAt (now (table .entry)) entry ⌝ }
 {
-    if e < words.len() {
-        return decode(e, words[e]);
+    if entry < table.len() {
+        return entry_of(entry, table[entry]);
     }
-    decode(e, 0)
-}
-
-fn since_adds(side: Side) -> usize
-    ensures { λ r. ⌜ r ≡ sinceAdds side ⌝ }
-{
-    match side {
-        Side::Past => 1,
-        Side::Future => 0,
-    }
-}
-
-fn until_adds(side: Side) -> usize
-    ensures { λ r. ⌜ r ≡ untilAdds side ⌝ }
-{
-    match side {
-        Side::Past => 0,
-        Side::Future => 1,
-    }
-}
-
-// What an operator adds to the greater height of its two parts.
-fn adds(op: Binary, side: Side) -> usize
-    ensures { λ r. ⌜ r ≡ addsOf side op ⌝ }
-{
-    match op {
-        Binary::Or => 0,
-        Binary::And => 0,
-        Binary::Since => since_adds(side),
-        Binary::Until => until_adds(side),
-    }
-}
-
-// Where a height is followed down: two parts and what the entry adds to the greater.
-enum Descent {
-    Leaf,
-    Down(usize, usize, usize),
-}
-
-fn parts(entry: Entry, side: Side) -> Descent
-    ensures { λ r. ⌜ r ≡ partsOf side entry ⌝ }
-{
-    match entry {
-        Entry::One(_, l) => Descent::Down(l, l, 0),
-        Entry::Two(op, l, r) => Descent::Down(l, r, adds(op, side)),
-        Entry::Atom(_) => Descent::Leaf,
-        Entry::Broken => Descent::Leaf,
-    }
-}
-
-fn larger(a: usize, b: usize) -> usize
-    ensures { λ r. ⌜ r ≡ max a b ⌝ }
-{
-    if a < b { b } else { a }
-}
-
-// A height of an entry, worked out by following its parts down; once where both are the same entry.
-pub fn height(words: &[u32], e: usize, side: Side) -> usize
-    ensures { λ r. ⌜ r ≡ height side (formulaOf (now (words .entry)) e) ⌝ }
-{
-    let Descent::Down(left, right, adds) = parts(entry_at(words, e), side) else {
-        return 0;
-    };
-    let a = height(words, left, side);
-    if left == right {
-        return a + adds;
-    }
-    larger(a, height(words, right, side)) + adds
+    entry_of(entry, 0)
 }
 
 fn keeps(index: usize, word: u32) -> bool
-    ensures { λ r. ⌜ r ≡ kept (entryOf index word) ⌝ }
+    ensures { λ r. ⌜ r ≡ isKept (entryOf index word) ⌝ }
 {
-    match decode(index, word) {
+    match entry_of(index, word) {
         Entry::Atom(_) => true,
         Entry::One(_, _) => true,
         Entry::Two(_, _, _) => true,
@@ -195,54 +126,32 @@ fn keeps(index: usize, word: u32) -> bool
 }
 
 // Whether every entry of a list keeps the kind table.
-pub fn all_keep(list: &[u32]) -> bool
-    ensures { λ r. ⌜ r ≡ keepsAll (now (list .entry)) ⌝ }
+pub fn all_keep(table: &[u32]) -> bool
+    ensures { λ r. ⌜ r ≡ keepsAll (now (table .entry)) ⌝ }
 {
-    let mut e = 0;
-    while e < list.len() {
-        if !keeps(e, list[e]) {
+    let mut entry = 0;
+    while entry < table.len() {
+        if !keeps(entry, table[entry]) {
             return false;
         }
-        e += 1;
+        entry += 1;
     }
     true
 }
 
 // A list of words read into the record. Whoever reads has tested that they have a place in it.
-pub fn read(list: &[u32]) -> Table
-    requires { ⌜ length (now list) ≤ maxEntries ⌝ }
-    ensures { λ r. ⌜ r ≡ tableOf (now (list .entry)) ⌝ }
+pub fn table_of(table: &[u32]) -> Table
+    requires { ⌜ length (now table) ≤ maxEntries ⌝ }
+    ensures { λ r. ⌜ r ≡ tableOf (now (table .entry)) ⌝ }
 {
     let mut words = [0u32; Schedule::MAX_ENTRIES];
-    let mut e = 0;
-    while e < list.len() {
-        words[e] = list[e];
-        e += 1;
+    let mut entry = 0;
+    while entry < table.len() {
+        words[entry] = table[entry];
+        entry += 1;
     }
     Table {
         words,
-        len: list.len(),
+        len: table.len(),
     }
-}
-
-// Whether the two heights of an entry add up to no more than the limit.
-fn low(words: &[u32], e: usize) -> bool
-    requires { ⌜ e < length (now words) ⌝ }
-    ensures { λ r. ⌜ r ≡ lowAt (now (words .entry)) e ⌝ }
-{
-    height(words, e, Side::Past) + height(words, e, Side::Future) <= Schedule::MAX_HEIGHT
-}
-
-// Whether every entry of a list has heights within the limit.
-pub fn all_low(words: &[u32]) -> bool
-    ensures { λ r. ⌜ r ≡ lowAll (now (words .entry)) ⌝ }
-{
-    let mut e = 0;
-    while e < words.len() {
-        if !low(words, e) {
-            return false;
-        }
-        e += 1;
-    }
-    true
 }

@@ -1,5 +1,4 @@
 -- Two results that meet a public function's contract coincide.
--- Assumes nothing.
 use mathlib.Core.Path.{_≡_, refl, sym, ap, _∙_}
 use mathlib.Core.Logic.{by-cases}
 use mathlib.Core.List.{List}
@@ -30,14 +29,18 @@ new-one u v (Ready s) EmptyLoop p q = absurd (fails-or-passes q (p .0))
 new-one u v (Ready s) TooLong p q = absurd (fails-or-passes q (p .0))
 new-one u v (Ready s) (Ready t) p q = ap Ready (p .1 ∙ sym (q .1))
 
--- One part of the caller's memory, with one list of letters. (A reference's ghost name is no part of a result.)
+-- One part of the caller's memory, with one list of letters. (A reference's
+-- ghost name is no part of a result.)
 abbrev Same : RefT (List ℕ) → RefT (List ℕ) → Type 0
 Same part other = (now part ≡ now other) × (ptr part .0 ≡ ptr other .0) × (ptr part .1 ≡ ptr other .1)
 
-rest-one : {lent part other : RefT (List ℕ)} {from : ℕ} → Rest lent from part → Rest lent from other → Same part other
-rest-one a b = (equal-one (a .letters) (b .letters), equal-one (a .block) (b .block), equal-one (a .offset) (b .offset))
+rest-one : {lent part other : RefT (List ℕ)} {from : ℕ} → Rest lent from part → Rest lent from other
+    → Same part other
+rest-one a b =
+    (equal-one (a .letters) (b .letters), equal-one (a .block) (b .block), equal-one (a .offset) (b .offset))
 
-pub view-one : (prefix loop part other : RefT (List ℕ)) (i : ℕ) → View prefix loop i part → View prefix loop i other → Same part other
+pub view-one : (prefix loop part other : RefT (List ℕ)) (i : ℕ) → View prefix loop i part
+    → View prefix loop i other → Same part other
 view-one prefix loop part other i w z =
     by-cases (decLt i (length (now prefix)))
     (λ lt. rest-one (w .opening lt) (z .opening lt))
@@ -45,7 +48,8 @@ view-one prefix loop part other i w z =
     (λ some. rest-one (w .looping (omega arith) some) (z .looping (omega arith) some))
     (λ none. rest-one (w .nothing (omega arith) (omega arith)) (z .nothing (omega arith) (omega arith))))
 
-pub letter-one : (prefix loop : List ℕ) (i a b : ℕ) → a ≡ letterAt prefix loop i → b ≡ letterAt prefix loop i → a ≡ b
+pub letter-one : (prefix loop : List ℕ) (i a b : ℕ) → a ≡ letterAt prefix loop i → b ≡ letterAt prefix loop i
+    → a ≡ b
 letter-one prefix loop i a b p q = equal-one p q
 
 pub bit-one : (letter atom a b : ℕ) → a ≡ letter / 2 ^ atom % 2 → b ≡ letter / 2 ^ atom % 2 → a ≡ b

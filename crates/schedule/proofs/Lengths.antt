@@ -1,5 +1,4 @@
 -- When lengths are refused with 1, with 2 and not at all: the constructor's cases, a law a return.
--- Assumes nothing.
 use mathlib.Core.Path.{_≡_, refl}
 use Prim.Native.Nat.{ℕ, _+_, _<_, _≤_}
 use native.Mathlib.Omega.{arith}
@@ -20,5 +19,5 @@ module _ (u v : ℕ) where
   pub refusal-0 : (v ≡ 0 → ⊥) → u + v ≤ maxLetters → AllPass (lengthTests u v)
   refusal-0 ne le = also (lt-ltb 0 v (omega (arith, ne))) (also (le-leb (u + v) maxLetters le) none)
 
-  pub makes-ready : (v ≡ 0 → ⊥) → u + v ≤ maxLetters → Makes u v (Ready (record { prefix = u; again = v }))
+  pub makes-ready : (v ≡ 0 → ⊥) → u + v ≤ maxLetters → Makes u v (Ready (record { prefix = u; looped = v }))
   makes-ready ne le = (refusal-0 ne le, refl)

@@ -1,5 +1,4 @@
 -- What the view shows, a law a return; and the letter at a position is its first.
--- Assumes nothing.
 use mathlib.Core.Path.{_≡_, refl, sym, _∙_, ap}
 use mathlib.Core.Logic.{by-cases}
 use mathlib.Core.List.{List, [], _∷_}
@@ -41,7 +40,8 @@ module _ (prefix loop part : RefT (List ℕ)) (i : ℕ) where
     nothing = λ _ none. absurd (omega arith);
   }
 
-  pub view-nothing : length (now prefix) ≤ i → length (now loop) ≡ 0 → Rest loop 0 part → View prefix loop i part
+  pub view-nothing : length (now prefix) ≤ i → length (now loop) ≡ 0 → Rest loop 0 part
+      → View prefix loop i part
   view-nothing le none r = record {
     opening = λ lt. absurd (omega arith);
     looping = λ _ some. absurd (omega arith);
@@ -51,7 +51,8 @@ module _ (prefix loop part : RefT (List ℕ)) (i : ℕ) where
 pub whole : (lent : RefT (List ℕ)) → Rest lent 0 lent
 whole lent = record { letters = refl; block = refl; offset = omega arith }
 
-rest-first : (lent part : RefT (List ℕ)) (from : ℕ) → Rest lent from part → getD (now part) 0 0 ≡ getD (now lent) from 0
+rest-first : (lent part : RefT (List ℕ)) (from : ℕ) → Rest lent from part
+    → getD (now part) 0 0 ≡ getD (now lent) from 0
 rest-first lent part from r = ap (λ l. getD l 0 0) (r .letters) ∙ getD-drop from (now lent) 0 0 ∙ rw add-zero
 
 -- within a list the default plays no part
@@ -60,12 +61,14 @@ in-list [] i d e lt = absurd (not-suc-le-zero lt)
 in-list (x ∷ l) zero d e lt = refl
 in-list (x ∷ l) (suc i) d e lt = in-list l i d e (le-of-suc-le-suc lt)
 
-pub letter-opening : (prefix loop : List ℕ) (i : ℕ) → i < length prefix → letterAt prefix loop i ≡ getD prefix i 0
+pub letter-opening : (prefix loop : List ℕ) (i : ℕ) → i < length prefix
+    → letterAt prefix loop i ≡ getD prefix i 0
 letter-opening prefix loop i lt = in-list prefix i (getD loop ((i - length prefix) % length loop) 0) 0 lt
 
 pub letter-looping : (prefix loop : List ℕ) (i : ℕ) → length prefix ≤ i
     → letterAt prefix loop i ≡ getD loop ((i - length prefix) % length loop) 0
-letter-looping prefix loop i le = List·getD-eq-default prefix (getD loop ((i - length prefix) % length loop) 0) le
+letter-looping prefix loop i le =
+    List·getD-eq-default prefix (getD loop ((i - length prefix) % length loop) 0) le
 
 pub letter-first : (prefix loop part : RefT (List ℕ)) (i : ℕ) → View prefix loop i part
     → getD (now part) 0 0 ≡ letterAt (now prefix) (now loop) i
@@ -73,8 +76,10 @@ letter-first prefix loop part i w =
     by-cases (decLt i (length (now prefix)))
     (λ lt. rest-first prefix part i (w .opening lt) ∙ sym (letter-opening (now prefix) (now loop) i lt))
     (λ ge. by-cases (decLt 0 (length (now loop)))
-    (λ some. rest-first loop part ((i - length (now prefix)) % length (now loop)) (w .looping (omega arith) some)
+    (λ some. rest-first loop part ((i - length (now prefix)) % length (now loop))
+    (w .looping (omega arith) some)
     ∙ sym (letter-looping (now prefix) (now loop) i (omega arith)))
     (λ none. rest-first loop part 0 (w .nothing (omega arith) (omega arith))
     ∙ List·getD-eq-default (now loop) 0 (omega arith)
-    ∙ sym (letter-looping (now prefix) (now loop) i (omega arith) ∙ List·getD-eq-default (now loop) 0 (omega arith))))
+    ∙ sym (letter-looping (now prefix) (now loop) i (omega arith)
+    ∙ List·getD-eq-default (now loop) 0 (omega arith))))

@@ -3,3 +3,4 @@ pub mod Figures
 pub mod Tests
 pub mod Lengths
 pub mod Letters
+pub mod Buffers

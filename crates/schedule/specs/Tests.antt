@@ -19,4 +19,5 @@ pub data AllPass : List Test → Type 0 where
 
 pub data FirstFails : List Test → Figures → Type 0 where
   here : {t : Test} {ts : List Test} → t .passes ≡ false → FirstFails (t ∷ ts) (t .answer)
-  later : {t : Test} {ts : List Test} {r : Figures} → t .passes ≡ true → FirstFails ts r → FirstFails (t ∷ ts) r
+  later : {t : Test} {ts : List Test} {r : Figures} → t .passes ≡ true → FirstFails ts r
+      → FirstFails (t ∷ ts) r

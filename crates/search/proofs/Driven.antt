@@ -1,5 +1,5 @@
--- A row's bounds and its filling by kind, as the code has them: the columns by the height that was worked out.
--- Assumes nothing.
+-- A row's bounds and its filling by kind, as the code has them: the columns by
+-- the height that was worked out.
 use Prim.Native.Nat.{ℕ, suc, _+_, _-_, _*_, _<_, _≤_}
 use mathlib.Core.Path.{_≡_, refl, sym, _∙_, ap, subst}
 use mathlib.Core.List.{List}
@@ -8,7 +8,7 @@ use native.Mathlib.Numerals.{add-one}
 use native.Mathlib.Omega.{arith}
 use lib.ListN.{length, getD}
 use Rattle.schedule.specs.Letters.{letterAt}
-use Rattle.schedule.specs.Limits.{maxHeight}
+use Rattle.schedule.specs.Limits.{maxHeight, workLength}
 use Rattle.rules.specs.Formula.{until, height}
 use Rattle.rules.specs.Tables.{formulaOf, build, entryAt}
 use Rattle.rules.specs.declared.Entry.{Entry}
@@ -22,14 +22,15 @@ use Rattle.trees.specs.Rules.{Frame}
 use Rattle.trees.specs.Least.{Cost, ones}
 use Rattle.theory.proofs.Horizon.{ones-atoms}
 use Rattle.trees.specs.Frames.{scheduleFrame}
-use Rattle.theory.specs.Cols.{cols}
+use Rattle.theory.specs.inside.Cols.{cols}
 use Rattle.theory.proofs.Words.{schedule-repeats}
 use Rattle.theory.proofs.Windowed.{Windowed, repeats-windowed}
-use Rattle.search.specs.Cells.{atomCell, plainCell, sinceCell, untilCell}
-use Rattle.search.specs.declared.Plain.the-variants as Plain
-use Rattle.search.specs.Rows.{rowOf, Ready, Filled}
-use Rattle.search.specs.Filling.{FilledBelow, Limited, Fills}
-use Rattle.search.proofs.Filling.{atom-filled, broken-filled, not-filled, or-filled, and-filled, since-filled, until-filled}
+use Rattle.cells.specs.inside.Cells.{atomCell, plainCell, sinceCell, untilCell}
+use Rattle.cells.specs.declared.Connective.the-variants as Plain
+use Rattle.rows.specs.inside.Rows.{rowOf, RowReady, Filled, rowLength}
+use Rattle.search.specs.inside.Filling.{FilledBelow, Limited, Fills}
+use Rattle.search.proofs.Filling.{atom-filled, broken-filled, not-filled, or-filled, and-filled}
+use Rattle.search.proofs.Filling.{since-filled, until-filled}
 
 -- A row within the limits, and h is its entry's height into the future, as the code has worked it out.
 pub record Measured (prefix loop table : List ℕ) (e len reach h : ℕ) : Type 0 where
@@ -48,10 +49,10 @@ module _ {prefix loop table : List ℕ} {e len reach h : ℕ} (m : Measured pref
       let k : 5 - h ≤ 5 = omega arith in
       mul-le-mul loop-small k
 
-  pub atom-ready : (16384 ≤ len) × (e < 32) × (reach + length loop * (5 - h) ≤ 512)
+  pub atom-ready : (workLength ≤ len) × (e < 32) × (reach + length loop * (5 - h) ≤ rowLength)
   atom-ready = (m .limits .room, m .limits .entry, omega (arith, lap-small, m .limits .short))
 
-  pub row-ready : (l r : ℕ) → l < e → r < e → Ready e l r (reach + length loop * (5 - h)) len
+  pub row-ready : (l r : ℕ) → l < e → r < e → RowReady e l r (reach + length loop * (5 - h)) len
   row-ready l r ll lr = record {
     room = m .limits .room;
     row-below = m .limits .entry;
@@ -167,8 +168,8 @@ module _ {prefix loop table : List ℕ} {e len reach h : ℕ} (m : Measured pref
         let n : k ≤ 5 = omega (arith, ek, until-low) in
         mul-le-mul loop-small n
 
-    pub until-fits : Ready e l r (reach + length loop * (5 - h)) len × (1 ≤ length loop)
-        × (reach + length loop * (5 - h) + length loop ≤ 512)
+    pub until-fits : RowReady e l r (reach + length loop * (5 - h)) len × (1 ≤ length loop)
+        × (reach + length loop * (5 - h) + length loop ≤ rowLength)
         × (length prefix + length loop * k ≤ reach + length loop * (5 - h))
     until-fits =
         let p = parts-of (Two Until l r) at in
@@ -182,7 +183,8 @@ module _ {prefix loop table : List ℕ} {e len reach h : ℕ} (m : Measured pref
         )
 
 -- The loop over the rows: none, a turn, done.
-pub fills-none : (cost : Cost) (frame : Frame) (table : List ℕ) (reach v : ℕ) (work : List ℕ) → Fills cost frame table reach v 0 work work
+pub fills-none : (cost : Cost) (frame : Frame) (table : List ℕ) (reach v : ℕ) (work : List ℕ)
+    → Fills cost frame table reach v 0 work work
 fills-none cost frame table reach v work = record {
   filled = record { rows = λ k p lt near. absurd (omega (arith, lt)) };
   same-length = refl;
@@ -190,18 +192,25 @@ fills-none cost frame table reach v work = record {
 }
 
 pub fills-turn : {cost : Cost} {frame : Frame} {table : List ℕ} {reach v e : ℕ} {found work left : List ℕ}
-    → Fills cost frame table reach v e found work → Fills cost frame table reach v (suc e) work left → Fills cost frame table reach v (e + 1) found left
-fills-turn {cost} {frame} {table} {reach} {v} {e} {found} {left = left} a b = subst (λ k. Fills cost frame table reach v k found left) (sym (add-one e)) (record {
-  filled = b .filled;
-  same-length = b .same-length ∙ a .same-length;
-  beyond = λ k past. b .beyond k past ∙ a .beyond k past;
-})
+    → Fills cost frame table reach v e found work → Fills cost frame table reach v (suc e) work left
+    → Fills cost frame table reach v (e + 1) found left
+fills-turn {cost} {frame} {table} {reach} {v} {e} {found} {left = left} a b =
+    subst (λ k. Fills cost frame table reach v k found left) (sym (add-one e))
+    (record {
+      filled = b .filled;
+      same-length = b .same-length ∙ a .same-length;
+      beyond = λ k past. b .beyond k past ∙ a .beyond k past;
+    })
 
-pub fills-done : {cost : Cost} {frame : Frame} {table : List ℕ} {reach v e k : ℕ} {found left : List ℕ} → k ≤ e + 1 → e < k → Fills cost frame table reach v k found left → Fills cost frame table reach v (suc e) found left
-fills-done {cost} {frame} {table} {reach} {v} {e} {k} {found} {left} le lt a = subst (λ n. Fills cost frame table reach v n found left) {x = k} {y = suc e} (omega arith) a
+pub fills-done : {cost : Cost} {frame : Frame} {table : List ℕ} {reach v e k : ℕ} {found left : List ℕ}
+    → k ≤ e + 1 → e < k → Fills cost frame table reach v k found left
+    → Fills cost frame table reach v (suc e) found left
+fills-done {cost} {frame} {table} {reach} {v} {e} {k} {found} {left} le lt a =
+    subst (λ n. Fills cost frame table reach v n found left) {x = k} {y = suc e} (omega arith) a
 
 -- the limits of an earlier row
-pub limited-earlier : {u v reach : ℕ} {table : List ℕ} {e k len more : ℕ} → k ≤ e → more ≡ len → Limited u v reach table e len → Limited u v reach table k more
+pub limited-earlier : {u v reach : ℕ} {table : List ℕ} {e k len more : ℕ} → k ≤ e → more ≡ len
+    → Limited u v reach table e len → Limited u v reach table k more
 limited-earlier le el lim = record {
   loop = lim .loop;
   letters = lim .letters;

@@ -1,5 +1,1 @@
-pub mod Cells
-pub mod Rows
-pub mod Meant
-pub mod Filling
-pub mod Clearing
+pub mod inside

@@ -1,5 +1,5 @@
--- The best tree of a claim, if it has any: best parts below each root that the claim allows, one root after the other.
--- Assumes nothing.
+-- The best tree of a claim, if it has any: best parts below each root that the claim
+-- allows, one root after the other.
 use Prim.Native.Nat.{ℕ, zero, suc, _+_, _<_, _≤_}
 use mathlib.Core.Path.{subst}
 use mathlib.Core.Logic.{⊎-elim, by-cases}
@@ -11,9 +11,9 @@ use Rattle.trees.specs.Rules.{Frame, Claim, Rule}
 use Rattle.trees.specs.Trees.{Tree, grown, Forest, more}
 use Rattle.trees.specs.Least.{Cost, AtOrBefore}
 use Rattle.trees.proofs.Order.{at-reflexive, at-transitive, at-later, tree-total}
-use Rattle.theory.specs.LeastForests.{LeastFor, LeastForest, noLeast, nextLeast}
+use Rattle.theory.specs.inside.LeastForests.{LeastFor, LeastForest, noLeast, nextLeast}
 use Rattle.theory.proofs.LeastForests.{least-forest-valid, least-forest-first}
-use Rattle.theory.proofs.Roots.{Ahead, ahead-before}
+use Rattle.theory.proofs.Roots.{AheadOfRoot, ahead-before}
 use Rattle.theory.proofs.Runs.{Each, nothing, also}
 
 pub data Best (cost : Cost) (frame : Frame) (c : Claim) : Type 0 where
@@ -41,45 +41,54 @@ module _ {cost : Cost} {frame : Frame} where
   ]
 
 -- A tree at or before the nodes ws, and ahead of the root x.
-pub record Tried (cost : Cost) (frame : Frame) (c : Claim) (ws : List Node) (x : Node) (needs : List Claim) : Type 0 where
+pub record Tried (cost : Cost) (frame : Frame) (c : Claim) (ws : List Node) (x : Node)
+    (needs : List Claim) : Type 0 where
   pub nodes : List Node
   pub tree : Tree frame c nodes
-  pub kept : AtOrBefore cost nodes ws
-  pub ahead : Ahead cost frame nodes x needs
+  pub no-worse : AtOrBefore cost nodes ws
+  pub ahead : AheadOfRoot cost frame nodes x needs
 
-module _ {cost : Cost} {frame : Frame} {c : Claim} {x : Node} {needs : List Claim} {ws : List Node} (r : Rule frame c x needs) (t : Tree frame c ws) where
+module _ {cost : Cost} {frame : Frame} {c : Claim} {x : Node} {needs : List Claim} {ws : List Node}
+    (r : Rule frame c x needs) (t : Tree frame c ws) where
   try-parts : BestParts cost frame needs → Tried cost frame c ws x needs
-  try-parts (noParts n) = record { nodes = ws; tree = t; kept = at-reflexive; ahead = record { first = λ vs fs. absurd (n vs fs) } }
+  try-parts (noParts n) = record {
+    nodes = ws;
+    tree = t;
+    no-worse = at-reflexive;
+    ahead = record { first = λ vs fs. absurd (n vs fs) };
+  }
   try-parts (bestParts us ls) =
       let s = grown r (least-forest-valid ls) in
-      let a : Ahead cost frame (x ∷ us) x needs = record { first = λ vs gs. at-later x (least-forest-first ls gs) } in
-      ⊎-elim
-      (λ old. record { nodes = ws; tree = t; kept = at-reflexive; ahead = ahead-before old a })
-      (λ new. record { nodes = x ∷ us; tree = s; kept = new; ahead = a })
-      (tree-total t s)
+      let a : AheadOfRoot cost frame (x ∷ us) x needs
+      = record { first = λ vs gs. at-later x (least-forest-first ls gs) } in
+      ⊎-elim (λ old. record { nodes = ws; tree = t; no-worse = at-reflexive; ahead = ahead-before old a })
+      (λ new. record { nodes = x ∷ us; tree = s; no-worse = new; ahead = a }) (tree-total t s)
 
   pub try : Each (Best cost frame) needs → Tried cost frame c ws x needs
   try bs = try-parts (best-parts bs)
 
 -- The same for a root that has a count: ahead of every count from lo on, below lo + k.
-pub record TriedAll (cost : Cost) (frame : Frame) (c : Claim) (ws : List Node) (x : ℕ → Node) (needs : ℕ → List Claim) (lo k : ℕ) : Type 0 where
+pub record TriedAll (cost : Cost) (frame : Frame) (c : Claim) (ws : List Node) (x : ℕ → Node)
+    (needs : ℕ → List Claim) (lo k : ℕ) : Type 0 where
   pub nodes : List Node
   pub tree : Tree frame c nodes
-  pub kept : AtOrBefore cost nodes ws
-  pub ahead : (n : ℕ) → lo ≤ n → n < lo + k → Ahead cost frame nodes (x n) (needs n)
+  pub no-worse : AtOrBefore cost nodes ws
+  pub ahead : (n : ℕ) → lo ≤ n → n < lo + k → AheadOfRoot cost frame nodes (x n) (needs n)
 
-module _ {cost : Cost} {frame : Frame} {c : Claim} {ws : List Node} (x : ℕ → Node) (needs : ℕ → List Claim) (t : Tree frame c ws)
-    (bs : (n : ℕ) → Each (Best cost frame) (needs n)) where
-  pub try-all : (lo k : ℕ) → ((n : ℕ) → lo ≤ n → n < lo + k → Rule frame c (x n) (needs n)) → TriedAll cost frame c ws x needs lo k
-  try-all lo zero r = record { nodes = ws; tree = t; kept = at-reflexive; ahead = λ n ge lt. absurd (omega arith) }
+module _ {cost : Cost} {frame : Frame} {c : Claim} {ws : List Node} (x : ℕ → Node) (needs : ℕ → List Claim)
+    (t : Tree frame c ws) (bs : (n : ℕ) → Each (Best cost frame) (needs n)) where
+  pub try-all : (lo k : ℕ) → ((n : ℕ) → lo ≤ n → n < lo + k → Rule frame c (x n) (needs n))
+      → TriedAll cost frame c ws x needs lo k
+  try-all lo zero r =
+      record { nodes = ws; tree = t; no-worse = at-reflexive; ahead = λ n ge lt. absurd (omega arith) }
   try-all lo (suc k) r =
       let a = try-all lo k (λ n ge lt. r n ge (omega arith)) in
       let b = try (r (lo + k) (omega arith) (omega arith)) (a .tree) (bs (lo + k)) in
       record {
         nodes = b .nodes;
         tree = b .tree;
-        kept = at-transitive (b .kept) (a .kept);
+        no-worse = at-transitive (b .no-worse) (a .no-worse);
         ahead = λ n ge lt. by-cases (decLt n (lo + k))
-            (λ in-it. ahead-before (b .kept) (a .ahead n ge in-it))
-            (λ last. subst (λ m. Ahead cost frame (b .nodes) (x m) (needs m)) (omega arith) (b .ahead));
+            (λ in-it. ahead-before (b .no-worse) (a .ahead n ge in-it))
+            (λ last. subst (λ m. AheadOfRoot cost frame (b .nodes) (x m) (needs m)) (omega arith) (b .ahead));
       }

@@ -1,5 +1,5 @@
--- Positions stay small: below a root that looks no further than the window, each part is asked below its own bound.
--- Assumes nothing.
+-- Positions stay small: below a root that looks no further than the window,
+-- each part is asked below its own bound.
 use Prim.Native.Nat.{ℕ, _+_, _-_, _<_, _≤_}
 use mathlib.Core.Path.{refl, _∙_}
 use mathlib.Core.List.{List}
@@ -13,33 +13,39 @@ use Rattle.trees.specs.Rules.{Frame, Claim, claim, Rule}
 use Rattle.trees.specs.declared.Verdict.{Verdict}
 use Rattle.trees.specs.declared.Verdict.the-variants.{Holds, Violated}
 use Rattle.trees.proofs.Shapes.{PartOf, ahead, cut, through, Shape, behind, looks, shape-of}
-use Rattle.theory.specs.Threshold.{windowEnd}
-use Rattle.theory.specs.Cols.{Placed}
+use Rattle.theory.specs.inside.Threshold.{windowEnd}
+use Rattle.theory.specs.inside.Cols.{InReach}
 use Rattle.theory.proofs.Runs.{Each, also, each-both, run-each}
 use Rattle.theory.proofs.Horizon.{InWindow}
 use Rattle.theory.proofs.Windowed.{Windowed}
 
-module _ {reach v : ℕ} {g : Formula} {i : ℕ} {s : Verdict} (a : Placed reach v (claim g i s)) where
+module _ {reach v : ℕ} {g : Formula} {i : ℕ} {s : Verdict} (a : InReach reach v (claim g i s)) where
   -- at the same position or an earlier one
-  part-placed : (f : Formula) (k : ℕ) (t : Verdict) → PartOf 0 f g → k ≤ i → Placed reach v (claim f k t)
+  part-placed : (f : Formula) (k : ℕ) (t : Verdict) → PartOf 0 f g → k ≤ i → InReach reach v (claim f k t)
   part-placed f k t p le =
       let h : maxHeight - height Future g ≤ maxHeight - height Future f = omega arith in
       record { low = omega arith; near = omega (arith, mul-le-mul-left v h) }
 
   -- below an until, anywhere in the window of its right side r
   until-placed : (u : ℕ) → u ≤ reach → (r : Formula) → height Past r ≤ height Past g
-      → (f : Formula) (k : ℕ) (t : Verdict) → PartOf 1 f g → k < windowEnd u v r i → Placed reach v (claim f k t)
+      → (f : Formula) (k : ℕ) (t : Verdict) → PartOf 1 f g → k < windowEnd u v r i
+      → InReach reach v (claim f k t)
   until-placed u fits r q f k t p lt =
       let h : maxHeight - height Future g + 1 ≤ maxHeight - height Future f = omega arith in
       let l : height Past r ≤ maxHeight - height Future g = omega arith in
       record {
         low = omega arith;
-        near = omega (arith, mul-le-mul-left v h, mul-add v (maxHeight - height Future g) 1, mul-le-mul-left v l);
+        near = omega (
+          arith,
+          mul-le-mul-left v h,
+          mul-add v (maxHeight - height Future g) 1,
+          mul-le-mul-left v l,
+        );
       }
 
 module _ {frame : Frame} {u v reach : ℕ} (w : Windowed frame u v reach) (fits : u ≤ reach) where
   shape-parts : {c : Claim} {x : Node} {needs : List Claim}
-      → Shape frame c x needs → InWindow u v c x → Placed reach v c → Each (Placed reach v) needs
+      → Shape frame c x needs → InWindow u v c x → InReach reach v c → Each (InReach reach v) needs
   shape-parts (behind fixed h k m from n t b) near a =
       each-both
       (run-each h t k fixed (λ j ge lt. part-placed a h j t (b .first) (omega (arith, b .one, b .place))))
@@ -60,5 +66,5 @@ module _ {frame : Frame} {u v reach : ℕ} (w : Windowed frame u v reach) (fits 
       run-each g Violated i n (λ k ge lt. placed g k Violated (omega arith) (omega arith))
 
   pub cols-parts : {c : Claim} {x : Node} {needs : List Claim}
-      → Rule frame c x needs → InWindow u v c x → Placed reach v c → Each (Placed reach v) needs
+      → Rule frame c x needs → InWindow u v c x → InReach reach v c → Each (InReach reach v) needs
   cols-parts r near a = shape-parts (shape-of r) near a

@@ -1,12 +1,11 @@
 -- Truth by search computes: small schedules, each answer by computation alone.
--- Assumes nothing.
 use Prim.Native.Nat.{ℕ}
 use mathlib.Core.Path.{_≡_, refl}
 use mathlib.Core.Bool.{Bool, true, false}
 use mathlib.Core.List.{[], _∷_}
 use Rattle.schedule.specs.Letters.{letterAt}
 use Rattle.rules.specs.Formula.{Formula, atom, notᶠ, orᶠ, andᶠ, since, until}
-use Rattle.theory.specs.Truth.{truth}
+use Rattle.theory.specs.inside.Truth.{truth}
 
 -- prefix 1, loop 4 2: atom 0 at 0 alone, atom 2 at 1, 3, 5 .., atom 1 at 2, 4, 6 .., atom 3 nowhere
 abbrev seam : Formula → ℕ → Bool
@@ -33,6 +32,9 @@ since-broken = refl
 always-again : seam (notᶠ (until (notᶠ (atom 3)) (notᶠ (until (notᶠ (atom 3)) (atom 1))))) 5 ≡ true
 always-again = refl
 
--- no prefix, loop 1 2: the first atom 0 with an atom 1 behind it stands at 2, a lap past the prefix, in the window because of its past height
-past-counts : truth (letterAt [] (1 ∷ 2 ∷ [])) 0 2 (until (notᶠ (atom 3)) (andᶠ (atom 0) (since (notᶠ (atom 3)) (atom 1)))) 0 ≡ true
+-- no prefix, loop 1 2: the first atom 0 with an atom 1 behind it stands at 2, a lap past the prefix, in the
+-- window because of its past height
+past-counts : truth (letterAt [] (1 ∷ 2 ∷ [])) 0 2
+    (until (notᶠ (atom 3)) (andᶠ (atom 0) (since (notᶠ (atom 3)) (atom 1)))) 0
+    ≡ true
 past-counts = refl

@@ -1,5 +1,4 @@
 -- What the price of a claim says about the least tree, and the least tree about the prices.
--- Assumes nothing.
 use Prim.Native.Nat.{ℕ, _<_, _≤_}
 use mathlib.Core.Path.{_≡_, refl}
 use mathlib.Core.List.{List}
@@ -12,20 +11,23 @@ use Rattle.trees.specs.Least.{Cost, costOf, Least}
 use Rattle.trees.specs.declared.Verdict.{Verdict}
 use Rattle.trees.specs.declared.Verdict.the-variants.{Holds, Violated}
 use Rattle.trees.proofs.Order.{at-cost}
-use Rattle.theory.specs.Frames.{Lawful}
-use Rattle.theory.specs.Means.{Means}
-use Rattle.theory.specs.Costs.{cutOff, cut}
-use Rattle.theory.specs.Prices.{Price}
+use Rattle.theory.specs.inside.Frames.{Lawful}
+use Rattle.trees.specs.Means.{Means}
+use Rattle.theory.specs.inside.Costs.{cutOff, cut}
+use Rattle.theory.specs.inside.Prices.{Price}
 use Rattle.theory.proofs.Cuts.{cut-none}
 use Rattle.theory.proofs.Sound.{sound}
 use Rattle.theory.proofs.LeastForests.{same-verdict}
 
 module _ {cost : Cost} {frame : Frame} {f : Formula} {i : ℕ} where
   -- a tree has at least the price of its claim
-  pub price-under : {s : Verdict} {p : ℕ} {vs : List Node} → Price cost frame (claim f i s) p → Tree frame (claim f i s) vs → p ≤ costOf cost vs
-  price-under {vs} c t = omega (arith, c .under (costOf cost vs) (record { nodes = vs; tree = t; costs = refl }))
+  pub price-under : {s : Verdict} {p : ℕ} {vs : List Node} → Price cost frame (claim f i s) p
+      → Tree frame (claim f i s) vs → p ≤ costOf cost vs
+  price-under {vs} c t =
+      omega (arith, c .under (costOf cost vs) (record { nodes = vs; tree = t; costs = refl }))
 
-  pub least-price : {us : List Node} (l : Least cost frame f i us) → Price cost frame (claim f i (l .verdict)) (cut (costOf cost us))
+  pub least-price : {us : List Node} (l : Least cost frame f i us)
+      → Price cost frame (claim f i (l .verdict)) (cut (costOf cost us))
   least-price {us} l = record {
     top = omega arith;
     under = λ n t. omega (arith, at-cost (l .least (l .verdict) (t .nodes) (t .tree)), t .costs);
@@ -33,7 +35,8 @@ module _ {cost : Cost} {frame : Frame} {f : Formula} {i : ℕ} where
   }
 
 module _ {frame : Frame} (law : Lawful frame) {f : Formula} {i : ℕ} where
-  means-verdict : (s q : Verdict) {vs : List Node} → Means (frame .letter) (claim f i s) → Tree frame (claim f i q) vs → q ≡ s
+  means-verdict : (s q : Verdict) {vs : List Node} → Means (frame .letter) (claim f i s)
+      → Tree frame (claim f i q) vs → q ≡ s
   means-verdict Holds Holds m t = refl
   means-verdict Holds Violated m t = absurd (sound law t m)
   means-verdict Violated Holds m t = absurd (m (sound law t))
@@ -55,9 +58,10 @@ module _ {cost : Cost} {frame : Frame} (law : Lawful frame) {f : Formula} {i : �
         t .costs,
       )
 
-  pub price-large : {s q : Verdict} {vs : List Node} → Price cost frame (claim f i s) cutOff → Means (frame .letter) (claim f i s)
-      → Tree frame (claim f i q) vs → cutOff ≤ costOf cost vs
+  pub price-large : {s q : Verdict} {vs : List Node} → Price cost frame (claim f i s) cutOff
+      → Means (frame .letter) (claim f i s) → Tree frame (claim f i q) vs → cutOff ≤ costOf cost vs
   price-large {s} {q} c m t = price-under c (rw (means-verdict law s q m t) at t)
 
-  pub unmeant-price : {s : Verdict} → ¬ Means (frame .letter) (claim f i s) → Price cost frame (claim f i s) cutOff
+  pub unmeant-price : {s : Verdict} → ¬ Means (frame .letter) (claim f i s)
+      → Price cost frame (claim f i s) cutOff
   unmeant-price n = cut-none (λ k t. n (sound law (t .tree)))

@@ -1,16 +1,16 @@
 -- What recurs from t on: the connectives keep t, since adds a lap, until keeps t.
--- Assumes nothing.
 use Prim.Native.Nat.{ℕ, _+_, _-_, _≤_}
 use mathlib.Core.Logic.{_⊎_, ⊎-map, by-cases}
 use native.Mathlib.Decide.{decLe}
 use native.Mathlib.Nat.{sub-add-cancel}
 use native.Mathlib.Omega.{arith}
-use Rattle.rules.specs.Meaning.{Since, Until}
-use Rattle.theory.specs.Words.{Recurs}
+use Rattle.rules.specs.Meaning.{SinceMeant, UntilMeant}
+use Rattle.theory.specs.inside.Words.{Recurs}
 
 module _ {P : ℕ → Type 0} {t v : ℕ} (p : Recurs P t v) where
   pub recurs-later : {s : ℕ} → t ≤ s → Recurs P s v
-  recurs-later le = record { forth = λ k ge. p .forth k (omega arith); back = λ k ge. p .back k (omega arith) }
+  recurs-later le =
+      record { forth = λ k ge. p .forth k (omega arith); back = λ k ge. p .back k (omega arith) }
 
   -- forth and back by the later position of the two
   pub recurs-up : (k : ℕ) → t + v ≤ k → P (k - v) → P k
@@ -35,8 +35,9 @@ module _ {A B : ℕ → Type 0} {t v : ℕ} (a : Recurs A t v) (b : Recurs B t v
     back = λ k ge h. (a .back k ge (h .0), b .back k ge (h .1));
   }
 
-  -- At t or past it the place moves along. Before t it stays, and the left side, which held a whole lap long, holds one lap more.
-  since-forth : (k : ℕ) → t + v ≤ k → Since A B k → Since A B (k + v)
+  -- At t or past it the place moves along. Before t it stays, and the left side,
+  -- which held a whole lap long, holds one lap more.
+  since-forth : (k : ℕ) → t + v ≤ k → SinceMeant A B k → SinceMeant A B (k + v)
   since-forth k ge s = by-cases (decLe t (s .place))
       (λ at. record {
         place = s .place + v;
@@ -54,7 +55,7 @@ module _ {A B : ℕ → Type 0} {t v : ℕ} (a : Recurs A t v) (b : Recurs B t v
       })
 
   -- A place at or before k stays; one past k, more than a lap past t, moves a lap down.
-  since-back : (k : ℕ) → t + v ≤ k → Since A B (k + v) → Since A B k
+  since-back : (k : ℕ) → t + v ≤ k → SinceMeant A B (k + v) → SinceMeant A B k
   since-back k ge s = by-cases (decLe (s .place) k)
       (λ near. record {
         place = s .place;
@@ -69,10 +70,10 @@ module _ {A B : ℕ → Type 0} {t v : ℕ} (a : Recurs A t v) (b : Recurs B t v
         between = λ m lt le. a .back m (omega arith) (s .between (m + v) (omega arith) (omega arith));
       })
 
-  pub since-recurs : Recurs (Since A B) (t + v) v
+  pub since-recurs : Recurs (SinceMeant A B) (t + v) v
   since-recurs = record { forth = since-forth; back = since-back }
 
-  pub until-recurs : Recurs (Until A B) t v
+  pub until-recurs : Recurs (UntilMeant A B) t v
   until-recurs = record {
     forth = λ k ge w. record {
       place = w .place + v;

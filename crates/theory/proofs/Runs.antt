@@ -1,5 +1,4 @@
 -- What is true of each claim of a run is true at each of its positions, and the other way round.
--- Assumes nothing.
 use Prim.Native.Nat.{ℕ, zero, suc, _+_, _<_, _≤_}
 use mathlib.Core.Path.{subst}
 use mathlib.Core.Logic.{by-cases}
@@ -25,7 +24,9 @@ module _ {P : Claim → Type 0} (f : Formula) (v : Verdict) where
       (λ here. subst (λ m. P (claim f m v)) (omega arith) p)
       (λ later. each-run (suc from) n ps k (omega arith) (omega arith))
 
-  pub run-each : (from n : ℕ) → ((k : ℕ) → from ≤ k → k < from + n → P (claim f k v)) → Each P (run f from n v)
+  pub run-each : (from n : ℕ) → ((k : ℕ) → from ≤ k → k < from + n → P (claim f k v))
+      → Each P (run f from n v)
   run-each from zero p = nothing
   run-each from (suc n) p =
-      also (p from (omega arith) (omega arith)) (run-each (suc from) n (λ k ge lt. p k (omega arith) (omega arith)))
+      also (p from (omega arith) (omega arith))
+      (run-each (suc from) n (λ k ge lt. p k (omega arith) (omega arith)))

@@ -1,5 +1,5 @@
--- What a tree saves against given nodes: its parts' savings add up, and a run cut short saves at least 1 a member.
--- Assumes nothing.
+-- What a tree saves against given nodes: its parts' savings add up,
+-- and a run cut short saves at least 1 a member.
 use Prim.Native.Nat.{ℕ, _+_, _≤_}
 use mathlib.Core.Path.{_≡_, ap}
 use mathlib.Core.List.{List, [], _∷_, _++_}
@@ -48,12 +48,13 @@ module _ {cost : Cost} {frame : Frame} where
   }
 
   -- the root's number may change
-  pub grow-saves : {m : ℕ} {c : Claim} {x : Node} {needs : List Claim} {ws : List Node}
-      → Rule frame c x needs → AllSave cost frame m needs ws → (n : ℕ) → Saves cost frame m c (node (x .rule) (x .atom) n ∷ ws)
+  pub grow-saves : {m : ℕ} {c : Claim} {x : Node} {needs : List Claim} {ws : List Node} → Rule frame c x needs
+      → AllSave cost frame m needs ws → (n : ℕ) → Saves cost frame m c (node (x .rule) (x .atom) n ∷ ws)
   grow-saves {x} r fs n = record { nodes = x ∷ fs .nodes; tree = grown r (fs .forest); less = omega arith }
 
   -- the same tree, at a position by another name
-  pub same-saves : (f : Formula) (p k : ℕ) (s : Verdict) → p ≡ k → {ws : List Node} → Tree frame (claim f p s) ws → Saves cost frame 0 (claim f k s) ws
+  pub same-saves : (f : Formula) (p k : ℕ) (s : Verdict) → p ≡ k → {ws : List Node}
+      → Tree frame (claim f p s) ws → Saves cost frame 0 (claim f k s) ws
   same-saves f p k s e {ws} t = record { nodes = ws; tree = rw e at t; less = omega arith }
 
   -- the first n members of q
@@ -76,5 +77,6 @@ module _ {cost : Cost} {frame : Frame} where
   pub no-dearer : {m : ℕ} {c : Claim} {ws : List Node} → Saves cost frame m c ws → Saves cost frame 0 c ws
   no-dearer a = record { nodes = a .nodes; tree = a .tree; less = omega arith }
 
-  pub at-least : {m n : ℕ} {cs : List Claim} {ws : List Node} → m ≤ n → AllSave cost frame n cs ws → AllSave cost frame m cs ws
+  pub at-least : {m n : ℕ} {cs : List Claim} {ws : List Node} → m ≤ n → AllSave cost frame n cs ws
+      → AllSave cost frame m cs ws
   at-least le a = record { nodes = a .nodes; forest = a .forest; less = omega arith }

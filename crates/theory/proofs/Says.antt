@@ -1,5 +1,4 @@
 -- A Boolean says whether a statement holds: what follows from it, and what the Boolean connectives say.
--- Assumes nothing.
 use Prim.Native.Nat.{ℕ}
 use mathlib.Core.Path.{_≡_, refl}
 use mathlib.Core.Logic.{_↔_, _⊎_, inl, inr, ⊎-elim}

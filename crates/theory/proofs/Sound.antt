@@ -1,5 +1,4 @@
 -- A valid tree has the verdict of the meaning, whatever its price and however far off its witnesses.
--- Assumes nothing.
 use Prim.Native.Nat.{ℕ, _+_, _-_, _<_}
 use mathlib.Core.Logic.{inl, inr, ⊎-elim, by-cases}
 use mathlib.Core.List.{List}
@@ -8,15 +7,14 @@ use native.Mathlib.Omega.{arith}
 use lib.ListN.{length}
 use Rattle.schedule.specs.Letters.{letterAt}
 use Rattle.trees.specs.Nodes.{Node}
-use Rattle.trees.specs.Rules.{Frame, Claim, Rule}
-use Rattle.trees.specs.Rules.{rule1, rule2, rule3, rule4, rule5, rule6, rule7, rule8}
+use Rattle.trees.specs.Rules.{Frame, Claim, Rule, rule1, rule2, rule3, rule4, rule5, rule6, rule7, rule8}
 use Rattle.trees.specs.Rules.{rule9, rule10, rule11, rule12, rule13, rule14, rule15, rule16}
 use Rattle.trees.specs.Trees.{Tree, grown, Forest, none, more}
 use Rattle.trees.specs.declared.Verdict.the-variants.{Holds, Violated}
 use Rattle.trees.specs.Frames.{windowCount, scheduleFrame}
-use Rattle.theory.specs.Words.{Repeats}
-use Rattle.theory.specs.Means.{Means}
-use Rattle.theory.specs.Frames.{Lawful}
+use Rattle.theory.specs.inside.Words.{Repeats}
+use Rattle.trees.specs.Means.{Means}
+use Rattle.theory.specs.inside.Frames.{Lawful}
 use Rattle.theory.proofs.Words.{schedule-repeats}
 use Rattle.theory.proofs.Window.{violated-ever}
 use Rattle.theory.proofs.Runs.{Each, nothing, also, each-run}
@@ -44,7 +42,8 @@ module _ {frame : Frame} (law : Lawful frame) where
   rule-sound (rule12 {f} {g} {i} {n} ge le) (also h hs) = λ s. by-cases (decLe (i + 1 - n) (s .place))
       (λ in-it. each-run g Violated (i + 1 - n) n hs (s .place) in-it (omega arith) (s .there))
       (λ before. h (s .between (i + 1 - n) (omega arith) (omega arith)))
-  rule-sound (rule13 {f} {g} {i} {n} e) hs = λ s. each-run g Violated 0 n hs (s .place) (omega arith) (omega arith) (s .there)
+  rule-sound (rule13 {f} {g} {i} {n} e) hs =
+      λ s. each-run g Violated 0 n hs (s .place) (omega arith) (omega arith) (s .there)
   rule-sound (rule14 {f} {g} {i} {n}) (also h hs) = record {
     place = i + n;
     order = omega arith;
@@ -55,8 +54,9 @@ module _ {frame : Frame} (law : Lawful frame) where
   rule-sound (rule15 {f} {g} {i} {n} ge) (also h hs) = λ w. by-cases (decLt (w .place) (i + n))
       (λ in-it. each-run g Violated i n hs (w .place) (w .order) in-it (w .there))
       (λ past. h (w .between (i + n - 1) (omega arith) (omega arith)))
-  rule-sound (rule16 {f} {g} {i} {n} e) hs = λ w.
-      law .ever g i (λ k ge lt. each-run g Violated i n hs k ge (omega arith)) (w .place) (w .order) (w .there)
+  rule-sound (rule16 {f} {g} {i} {n} e) hs =
+      λ w. law .ever g i (λ k ge lt. each-run g Violated i n hs k ge (omega arith)) (w .place)
+      (w .order) (w .there)
 
   sounds : {cs : List Claim} {ws : List Node} → Forest frame cs ws → Each (Means (frame .letter)) cs
   sounds fs = elim fs as (λ c ws t. Means (frame .letter) c) (λ cs ws gs. Each (Means (frame .letter)) cs) [
@@ -69,12 +69,14 @@ module _ {frame : Frame} (law : Lawful frame) where
   sound (grown r fs) = rule-sound r (sounds fs)
 
 -- the count of the table reaches to the end of the window
-pub repeats-lawful : {word : ℕ → ℕ} {u v : ℕ} → Repeats word u v → Lawful (record { letter = word; count = windowCount u v })
+pub repeats-lawful : {word : ℕ → ℕ} {u v : ℕ} → Repeats word u v
+    → Lawful (record { letter = word; count = windowCount u v })
 repeats-lawful w = record { ever = λ g i window. violated-ever w g i (λ k ge lt. window k ge (omega arith)) }
 
 module _ (prefix loop : List ℕ) (some : 0 < length loop) where
   pub schedule-lawful : Lawful (scheduleFrame prefix loop)
   schedule-lawful = repeats-lawful (schedule-repeats prefix loop some)
 
-  pub schedule-sound : {c : Claim} {ws : List Node} → Tree (scheduleFrame prefix loop) c ws → Means (letterAt prefix loop) c
+  pub schedule-sound : {c : Claim} {ws : List Node} → Tree (scheduleFrame prefix loop) c ws
+      → Means (letterAt prefix loop) c
   schedule-sound = sound schedule-lawful

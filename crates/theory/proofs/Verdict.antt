@@ -1,5 +1,5 @@
--- A formula has valid trees of one verdict alone at a position, and none of them, of whatever verdict, is a proper beginning of another.
--- Assumes nothing.
+-- A formula has valid trees of one verdict alone at a position, and none of them, of whatever verdict,
+-- is a proper beginning of another.
 use Prim.Native.Nat.{ℕ, _<_}
 use mathlib.Core.Path.{_≡_, sym, _∙_}
 use mathlib.Core.List.{List, [], _++_, append-nil, append-cancel-left}
@@ -12,7 +12,7 @@ use Rattle.trees.specs.Frames.{scheduleFrame}
 use Rattle.trees.specs.declared.Verdict.{Verdict}
 use Rattle.trees.specs.declared.Verdict.the-variants.{Holds, Violated}
 use Rattle.trees.proofs.Beginnings.{either-first}
-use Rattle.theory.specs.Frames.{Lawful}
+use Rattle.theory.specs.inside.Frames.{Lawful}
 use Rattle.theory.proofs.Sound.{sound, schedule-lawful}
 
 module _ {frame : Frame} {f : Formula} {i : ℕ} {ws vs : List Node} where
@@ -26,6 +26,7 @@ module _ {frame : Frame} {f : Formula} {i : ℕ} {ws vs : List Node} where
       let same = either-first t s a [] (e ∙ sym (append-nil vs)) in
       append-cancel-left ws a [] (e ∙ sym same ∙ sym (append-nil ws))
 
-pub schedule-one-verdict : (prefix loop : List ℕ) → 0 < length loop → {f : Formula} {i : ℕ} {ws vs : List Node}
-    → Tree (scheduleFrame prefix loop) (claim f i Holds) ws → Tree (scheduleFrame prefix loop) (claim f i Violated) vs → ⊥
+pub schedule-one-verdict : (prefix loop : List ℕ) → 0 < length loop
+    → {f : Formula} {i : ℕ} {ws vs : List Node} → Tree (scheduleFrame prefix loop) (claim f i Holds) ws
+    → Tree (scheduleFrame prefix loop) (claim f i Violated) vs → ⊥
 schedule-one-verdict prefix loop some = one-verdict (schedule-lawful prefix loop some)

@@ -1,5 +1,5 @@
--- What the search and the writer ask of a frame: windows given by two numbers, past which the root of no least tree looks.
--- Assumes nothing.
+-- What the search and the writer ask of a frame: windows given by two numbers,
+-- past which the root of no least tree looks.
 use Prim.Native.Nat.{ℕ, _+_, _*_, _<_}
 use mathlib.Core.Path.{_≡_, refl}
 use mathlib.Core.List.{List, _∷_, head-eq-of-cons-eq}
@@ -13,14 +13,14 @@ use Rattle.trees.specs.Frames.{windowCount}
 use Rattle.trees.specs.Least.{Cost, Least}
 use Rattle.trees.specs.declared.Verdict.{Verdict}
 use Rattle.trees.proofs.Order.{at-antisymmetric}
-use Rattle.theory.specs.Words.{Repeats}
-use Rattle.theory.specs.Threshold.{windowEnd}
-use Rattle.theory.specs.Repeating.{repeatFrame}
-use Rattle.theory.specs.Level.{Level}
-use Rattle.theory.specs.Frames.{Lawful}
-use Rattle.theory.specs.LeastForests.{LeastForest}
+use Rattle.theory.specs.inside.Words.{Repeats}
+use Rattle.theory.specs.inside.Threshold.{windowEnd}
+use Rattle.theory.specs.inside.Repeating.{repeatFrame}
+use Rattle.theory.specs.inside.Level.{Level}
+use Rattle.theory.specs.inside.Frames.{Lawful}
+use Rattle.theory.specs.inside.LeastForests.{LeastForest}
 use Rattle.theory.proofs.Sound.{repeats-lawful}
-use Rattle.theory.proofs.Horizon.{InWindow, Within, inside}
+use Rattle.theory.proofs.Horizon.{InWindow, NearTree, inside}
 use Rattle.theory.proofs.LeastExists.{least-exists}
 use Rattle.theory.proofs.LeastParts.{LeastBelow, least-below, least-parts}
 
@@ -31,11 +31,13 @@ pub record Windowed (frame : Frame) (u v reach : ℕ) : Type 0 where
   -- what is violated all through the window is violated for ever
   pub lawful : Lawful frame
   -- a witness past the window is never worth its way
-  pub near : (cost : Cost) → Level cost → (c : Claim) (ws : List Node) → Tree frame c ws → Within cost frame (InWindow u v c) c ws
+  pub near : (cost : Cost) → Level cost → (c : Claim) (ws : List Node) → Tree frame c ws
+      → NearTree cost frame (InWindow u v c) c ws
   -- there is a least tree
   pub exists : (cost : Cost) (f : Formula) (i : ℕ) → (us : List Node) × Least cost frame f i us
 
-pub repeats-windowed : {word : ℕ → ℕ} {u v : ℕ} (reach : ℕ) → Repeats word u v → Windowed (repeatFrame word u v) u v reach
+pub repeats-windowed : {word : ℕ → ℕ} {u v : ℕ} (reach : ℕ) → Repeats word u v
+    → Windowed (repeatFrame word u v) u v reach
 repeats-windowed reach w = record {
   counts = λ i h. refl;
   some = λ g i lt. omega (arith, w .some);
@@ -45,21 +47,24 @@ repeats-windowed reach w = record {
 }
 
 module _ {frame : Frame} {u v reach : ℕ} (w : Windowed frame u v reach) {cost : Cost} where
-  pub window-least-inside : Level cost → {f : Formula} {i : ℕ} {x : Node} {ws : List Node} (l : Least cost frame f i (x ∷ ws))
+  pub window-least-inside : Level cost
+      → {f : Formula} {i : ℕ} {x : Node} {ws : List Node} (l : Least cost frame f i (x ∷ ws))
       → InWindow u v (claim f i (l .verdict)) x
   window-least-inside lv l =
       let a = w .near cost lv _ _ (l .valid) in
       rw (head-eq-of-cons-eq (at-antisymmetric (a .before) (l .least (l .verdict) _ (a .tree)))) at (a .near)
 
-  pub window-least-below : {f : Formula} {i : ℕ} {x : Node} {ws : List Node} (l : Least cost frame f i (x ∷ ws))
-      → LeastBelow cost frame (claim f i (l .verdict)) x ws
+  pub window-least-below : {f : Formula} {i : ℕ} {x : Node} {ws : List Node}
+      (l : Least cost frame f i (x ∷ ws)) → LeastBelow cost frame (claim f i (l .verdict)) x ws
   window-least-below = least-below (w .lawful) (w .exists cost)
 
-  pub window-least-parts : {f : Formula} {i : ℕ} {s : Verdict} {x : Node} {needs : List Claim} {ws : List Node}
-      → Rule frame (claim f i s) x needs → Least cost frame f i (x ∷ ws) → LeastForest cost frame needs ws
+  pub window-least-parts : {f : Formula} {i : ℕ} {s : Verdict} {x : Node} {needs : List Claim}
+      {ws : List Node} → Rule frame (claim f i s) x needs → Least cost frame f i (x ∷ ws)
+      → LeastForest cost frame needs ws
   window-least-parts = least-parts (w .lawful) (w .exists cost)
 
 -- Of the endless frame: the root of a least tree looks no further than the window.
-pub least-inside : {cost : Cost} → Level cost → {word : ℕ → ℕ} {u v : ℕ} → Repeats word u v → {f : Formula} {i : ℕ} {x : Node} {ws : List Node}
-    → (l : Least cost (repeatFrame word u v) f i (x ∷ ws)) → InWindow u v (claim f i (l .verdict)) x
+pub least-inside : {cost : Cost} → Level cost → {word : ℕ → ℕ} {u v : ℕ} → Repeats word u v
+    → {f : Formula} {i : ℕ} {x : Node} {ws : List Node} → (l : Least cost (repeatFrame word u v) f i (x ∷ ws))
+    → InWindow u v (claim f i (l .verdict)) x
 least-inside lv w l = window-least-inside (repeats-windowed 0 w) lv l

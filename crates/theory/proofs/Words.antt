@@ -1,5 +1,4 @@
 -- The word of a schedule repeats from the end of its prefix on, with the length of its loop for the lap.
--- Assumes nothing.
 use Prim.Native.Nat.{ℕ, _+_, _-_, _%_, _<_, _≤_}
 use mathlib.Core.Path.{_≡_, sym, _∙_, ap}
 use mathlib.Core.List.{List}
@@ -8,13 +7,14 @@ use native.Mathlib.Omega.{arith}
 use lib.ListN.{length, getD}
 use Rattle.schedule.specs.Letters.{letterAt}
 use Rattle.schedule.proofs.Letters.{letter-looping}
-use Rattle.theory.specs.Words.{Repeats}
+use Rattle.theory.specs.inside.Words.{Repeats}
 
 -- a lap later the same letter of the loop is in force
 remainder-again : (u v k : ℕ) → u ≤ k → (k + v - u) % v ≡ (k - u) % v
 remainder-again u v k le = ap (λ n. n % v) (omega arith) ∙ add-mod-right (k - u) v
 
-pub schedule-repeats : (prefix loop : List ℕ) → 0 < length loop → Repeats (letterAt prefix loop) (length prefix) (length loop)
+pub schedule-repeats : (prefix loop : List ℕ) → 0 < length loop
+    → Repeats (letterAt prefix loop) (length prefix) (length loop)
 schedule-repeats prefix loop some = record {
   some = some;
   again = λ k le.

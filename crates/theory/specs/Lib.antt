@@ -1,14 +1,1 @@
-pub mod Words
-pub mod Threshold
-pub mod Truth
-pub mod Means
-pub mod Frames
-pub mod Repeating
-pub mod Level
-pub mod LeastForests
-pub mod Cols
-pub mod Costs
-pub mod RunCosts
-pub mod SinceCosts
-pub mod UntilCosts
-pub mod Prices
+pub mod inside

@@ -1,5 +1,5 @@
--- No valid tree's words are a proper beginning of another's: where two trees for one claim begin the same words, they are the same.
--- Assumes nothing.
+-- No valid tree's words are a proper beginning of another's: where two trees for one claim begin the
+-- same words, they are the same.
 use Prim.Native.Nat.{ℕ}
 use mathlib.Core.Path.{_≡_, refl, sym, _∙_, ap, ap₂}
 use mathlib.Core.List.{List, _∷_, _++_, head-eq-of-cons-eq, tail-eq-of-cons-eq, append-cancel-left}
@@ -8,7 +8,7 @@ use Rattle.trees.specs.Nodes.{Node}
 use Rattle.trees.specs.Rules.{Frame, Claim, claim}
 use Rattle.trees.specs.Trees.{Tree, grown, Forest}
 use Rattle.trees.specs.declared.Verdict.{Verdict}
-use Rattle.trees.specs.Table.{ruleSign}
+use Rattle.trees.specs.Verdicts.{ruleSign}
 use Rattle.trees.proofs.Needs.{needsOf, rule-needs, rule-sign, sign-one}
 use Rattle.trees.proofs.Forests.{tree-alone}
 use Rattle.trees.proofs.Laid.{Laid, done, laid, forest-laid}
@@ -30,7 +30,8 @@ module _ {frame : Frame} where
   -- and so what follows is the same too
   pub forest-rest : {cs : List Claim} {ws vs : List Node} → Forest frame cs ws → Forest frame cs vs
       → (a b : List Node) → ws ++ a ≡ vs ++ b → a ≡ b
-  forest-rest {vs} fs gs a b e = append-cancel-left vs a b (ap (λ l. l ++ a) (sym (forest-first fs gs a b e)) ∙ e)
+  forest-rest {vs} fs gs a b e =
+      append-cancel-left vs a b (ap (λ l. l ++ a) (sym (forest-first fs gs a b e)) ∙ e)
 
   pub tree-first : {c : Claim} {ws vs : List Node} → Tree frame c ws → Tree frame c vs
       → (a b : List Node) → ws ++ a ≡ vs ++ b → ws ≡ vs
@@ -43,6 +44,6 @@ module _ {frame : Frame} where
       sign-one (rule-sign r ∙ ap (λ x. ruleSign (x .rule)) (head-eq-of-cons-eq e) ∙ sym (rule-sign s))
 
   -- so trees of either verdict are among those of which none begins another
-  pub either-first : {f : Formula} {i : ℕ} {p q : Verdict} {ws vs : List Node} → Tree frame (claim f i p) ws → Tree frame (claim f i q) vs
-      → (a b : List Node) → ws ++ a ≡ vs ++ b → ws ≡ vs
+  pub either-first : {f : Formula} {i : ℕ} {p q : Verdict} {ws vs : List Node} → Tree frame (claim f i p) ws
+      → Tree frame (claim f i q) vs → (a b : List Node) → ws ++ a ≡ vs ++ b → ws ≡ vs
   either-first t s a b e = tree-first t (rw (sym (first-verdict t s a b e)) at s) a b e

@@ -1,5 +1,5 @@
--- A forest read word by word, as a walk meets it: each node adds its needs in front of the claims that are left, and at the end none is left.
--- Assumes nothing.
+-- A forest read word by word, as a walk meets it: each node adds its needs in front of the claims that are
+-- left, and at the end none is left.
 use mathlib.Core.List.{List, [], _∷_, _++_, append-nil, append-assoc}
 use Rattle.trees.specs.Nodes.{Node}
 use Rattle.trees.specs.Rules.{Frame, Claim, Rule}

@@ -1,5 +1,5 @@
--- A node leaves its claim no choice: claim and node fix what the parts have to prove, and the rule fixes what claim and node look like.
--- Assumes nothing.
+-- A node leaves its claim no choice: claim and node fix what the parts have to prove,
+-- and the rule fixes what claim and node look like.
 use Prim.Native.Nat.{ℕ, _+_, _-_, _≤_}
 use mathlib.Core.Path.{_≡_, refl, sym, ap, _∙_}
 use mathlib.Core.Bool.{cond}
@@ -10,15 +10,16 @@ use Rattle.rules.specs.Formula.{Formula, atom, notᶠ, orᶠ, andᶠ, since, un
 use Rattle.rules.specs.Meaning.{HasAtom}
 use Rattle.rules.specs.declared.Side.the-variants.{Past}
 use Rattle.trees.specs.Nodes.{Node}
-use Rattle.trees.specs.Rules.{Frame, Claim, claim, run, Rule}
-use Rattle.trees.specs.Rules.{rule1, rule2, rule3, rule4, rule5, rule6, rule7, rule8}
-use Rattle.trees.specs.Rules.{rule9, rule10, rule11, rule12, rule13, rule14, rule15, rule16}
-use Rattle.trees.specs.Table.{ruleSign, ruleKind}
-use Rattle.trees.specs.Plans.{signOf, provenBy}
+use Rattle.trees.specs.Rules.{Frame, Claim, claim, run, Rule, rule1, rule2, rule3, rule4, rule5, rule6}
+use Rattle.trees.specs.Rules.{rule7, rule8, rule9, rule10, rule11, rule12, rule13, rule14, rule15}
+use Rattle.trees.specs.Rules.{rule16}
+use Rattle.trees.specs.Verdicts.{ruleSign, signOf, provenBy}
+use Rattle.trees.specs.inside.Table.{ruleKind}
 use Rattle.trees.specs.declared.Verdict.{Verdict}
 use Rattle.trees.specs.declared.Verdict.the-variants.{Holds, Violated}
 
--- What the parts of a node with rule r and number n have to prove. Where two rules compete, the test picks one.
+-- What the parts of a node with rule r and number n have to prove.
+-- Where two rules compete, the test picks one.
 abbrev pub needsBy : Formula → ℕ → Verdict → ℕ → ℕ → List Claim
 needsBy (atom a) i Holds r n = []
 needsBy (atom a) i Violated r n = []
@@ -29,9 +30,11 @@ needsBy (orᶠ f g) i Violated r n = claim f i Violated ∷ claim g i Violated �
 needsBy (andᶠ f g) i Holds r n = claim f i Holds ∷ claim g i Holds ∷ []
 needsBy (andᶠ f g) i Violated r n = cond (eqb r 9) (claim f i Violated ∷ []) (claim g i Violated ∷ [])
 needsBy (since f g) i Holds r n = claim g (i - n) Holds ∷ run f (i - n + 1) n Holds
-needsBy (since f g) i Violated r n = cond (eqb r 12) (claim f (i + 1 - n) Violated ∷ run g (i + 1 - n) n Violated) (run g 0 n Violated)
+needsBy (since f g) i Violated r n =
+    cond (eqb r 12) (claim f (i + 1 - n) Violated ∷ run g (i + 1 - n) n Violated) (run g 0 n Violated)
 needsBy (until f g) i Holds r n = claim g (i + n) Holds ∷ run f i n Holds
-needsBy (until f g) i Violated r n = cond (eqb r 15) (claim f (i + n - 1) Violated ∷ run g i n Violated) (run g i n Violated)
+needsBy (until f g) i Violated r n =
+    cond (eqb r 15) (claim f (i + n - 1) Violated ∷ run g i n Violated) (run g i n Violated)
 
 abbrev pub needsOf : Claim → Node → List Claim
 needsOf c x = needsBy (c .formula) (c .position) (c .verdict) (x .rule) (x .number)
@@ -88,7 +91,8 @@ pub record Numbers (frame : Frame) (c : Claim) (x : Node) : Type 0 where
   pub count12 : x .rule ≡ 12 → (1 ≤ x .number) × (x .number ≤ c .position + 1)
   pub count13 : x .rule ≡ 13 → x .number ≡ c .position + 1
   pub count15 : x .rule ≡ 15 → 1 ≤ x .number
-  pub count16 : x .rule ≡ 16 → x .number ≡ frame .count (c .position) (height Past (formulaRight (c .formula)))
+  pub count16 : x .rule ≡ 16
+      → x .number ≡ frame .count (c .position) (height Past (formulaRight (c .formula)))
 
 -- the one table of the rules: all that claim and node say of them
 rule-told : {frame : Frame} {c : Claim} {x : Node} {needs : List Claim}
@@ -132,6 +136,7 @@ sign-proves : (s : Verdict) (n : ℕ) → signOf s ≡ n → cond (eqb n 1) Hold
 sign-proves Holds n e = ap (λ k. cond (eqb k 1) Holds Violated) (sym e)
 sign-proves Violated n e = ap (λ k. cond (eqb k 1) Holds Violated) (sym e)
 
-pub rule-proves : {frame : Frame} {c : Claim} {x : Node} {needs : List Claim} → Rule frame c x needs → provenBy (x .rule) ≡ c .verdict
+pub rule-proves : {frame : Frame} {c : Claim} {x : Node} {needs : List Claim} → Rule frame c x needs
+    → provenBy (x .rule) ≡ c .verdict
 unfolding provenBy
 rule-proves {c} {x} r = sign-proves (c .verdict) (ruleSign (x .rule)) (rule-sign r)

@@ -1,5 +1,5 @@
--- Trees of one formula and position stand in one strict order, by cost and then by words: so there is at most one least tree.
--- Assumes nothing.
+-- Trees of one formula and position stand in one strict order, by cost and then by words:
+-- so there is at most one least tree.
 use Prim.Native.Nat.{ℕ, _+_, _<_, _≤_}
 use mathlib.Core.Path.{_≡_, refl, sym, _∙_, ap, ap₂}
 use mathlib.Core.Logic.{_⊎_, inl, inr, by-cases}
@@ -11,8 +11,8 @@ use Rattle.rules.specs.Formula.{Formula}
 use Rattle.trees.specs.Nodes.{Node}
 use Rattle.trees.specs.Rules.{Frame, claim}
 use Rattle.trees.specs.Trees.{Tree}
-use Rattle.trees.specs.Least.{Cost, costOf, ones, Least}
-use Rattle.trees.specs.Least.{NodeBefore, byRule, byAtom, byNumber, Before, here, later, AtOrBefore, cheaper, earlier, same}
+use Rattle.trees.specs.Least.{Cost, costOf, ones, Least, NodeBefore, byRule, byAtom, byNumber, Before}
+use Rattle.trees.specs.Least.{here, later, AtOrBefore, cheaper, earlier, same}
 use Rattle.trees.specs.declared.Verdict.{Verdict}
 use Rattle.trees.proofs.Beginnings.{either-first}
 
@@ -38,7 +38,8 @@ node-transitive {x} {z} (byAtom e h) (byAtom d k) = byAtom {x = x} {y = z} (omeg
 node-transitive {x} {z} (byAtom e h) (byNumber d c k) = byAtom {x = x} {y = z} (omega arith) (omega arith)
 node-transitive {x} {z} (byNumber e d h) (byRule k) = byRule {x = x} {y = z} (omega arith)
 node-transitive {x} {z} (byNumber e d h) (byAtom c k) = byAtom {x = x} {y = z} (omega arith) (omega arith)
-node-transitive {x} {z} (byNumber e d h) (byNumber c b k) = byNumber {x = x} {y = z} (omega arith) (omega arith) (omega arith)
+node-transitive {x} {z} (byNumber e d h) (byNumber c b k) =
+    byNumber {x = x} {y = z} (omega arith) (omega arith) (omega arith)
 
 -- numbers, in three
 module _ {C : Type 0} (m n : ℕ) where
@@ -134,7 +135,8 @@ module _ {cost : Cost} where
   pub at-reflexive : {ws : List Node} → AtOrBefore cost ws ws
   at-reflexive = same refl
 
-  pub at-transitive : {ws vs us : List Node} → AtOrBefore cost ws vs → AtOrBefore cost vs us → AtOrBefore cost ws us
+  pub at-transitive : {ws vs us : List Node} → AtOrBefore cost ws vs → AtOrBefore cost vs us
+      → AtOrBefore cost ws us
   at-transitive (cheaper h) c = cheaper (omega (arith, at-cost c))
   at-transitive (earlier e b) (cheaper k) = cheaper (omega arith)
   at-transitive (earlier e b) (earlier d c) = earlier (e ∙ d) (before-transitive b c)
@@ -148,29 +150,35 @@ module _ {cost : Cost} where
   at-antisymmetric (earlier e b) (same d) = sym d
   at-antisymmetric (same e) c = e
 
-  pub append-at : (xs : List Node) {ws vs : List Node} → AtOrBefore cost ws vs → AtOrBefore cost (xs ++ ws) (xs ++ vs)
+  pub append-at : (xs : List Node) {ws vs : List Node} → AtOrBefore cost ws vs
+      → AtOrBefore cost (xs ++ ws) (xs ++ vs)
   append-at xs {ws} {vs} (cheaper h) = cheaper (omega (arith, cost-append cost xs ws, cost-append cost xs vs))
-  append-at xs {ws} {vs} (earlier e b) = earlier (omega (arith, cost-append cost xs ws, cost-append cost xs vs)) (append-before xs b)
+  append-at xs {ws} {vs} (earlier e b) =
+      earlier (omega (arith, cost-append cost xs ws, cost-append cost xs vs)) (append-before xs b)
   append-at xs (same e) = same (ap (λ l. xs ++ l) e)
 
   pub at-later : (x : Node) {ws vs : List Node} → AtOrBefore cost ws vs → AtOrBefore cost (x ∷ ws) (x ∷ vs)
   at-later x = append-at (x ∷ [])
 
   -- replacing two neighbours, each by one at or before it
-  pub at-append : {ws vs xs ys : List Node} → AtOrBefore cost ws vs → AtOrBefore cost xs ys → AtOrBefore cost (ws ++ xs) (vs ++ ys)
-  at-append {ws} {vs} {xs} {ys} (cheaper h) c = cheaper (omega (arith, at-cost c, cost-append cost ws xs, cost-append cost vs ys))
-  at-append {ws} {vs} {xs} {ys} (earlier e b) (cheaper k) = cheaper (omega (arith, cost-append cost ws xs, cost-append cost vs ys))
+  pub at-append : {ws vs xs ys : List Node} → AtOrBefore cost ws vs → AtOrBefore cost xs ys
+      → AtOrBefore cost (ws ++ xs) (vs ++ ys)
+  at-append {ws} {vs} {xs} {ys} (cheaper h) c =
+      cheaper (omega (arith, at-cost c, cost-append cost ws xs, cost-append cost vs ys))
+  at-append {ws} {vs} {xs} {ys} (earlier e b) (cheaper k) =
+      cheaper (omega (arith, cost-append cost ws xs, cost-append cost vs ys))
   at-append {ws} {vs} {xs} {ys} (earlier e b) (earlier d c) =
       earlier (omega (arith, cost-append cost ws xs, cost-append cost vs ys)) (before-append b xs ys)
   at-append {ws} {vs} {xs} {ys} (earlier e b) (same d) =
-      earlier (omega (arith, ap (costOf cost) d, cost-append cost ws xs, cost-append cost vs ys)) (before-append b xs ys)
+      earlier (omega (arith, ap (costOf cost) d, cost-append cost ws xs, cost-append cost vs ys))
+      (before-append b xs ys)
   at-append {ws} {vs} {xs} {ys} (same e) c = rw e (append-at vs c)
 
 -- The least tree
 
 module _ {cost : Cost} {frame : Frame} {f : Formula} {i : ℕ} where
-  pub tree-total : {p q : Verdict} {ws vs : List Node} → Tree frame (claim f i p) ws → Tree frame (claim f i q) vs
-      → AtOrBefore cost ws vs ⊎ AtOrBefore cost vs ws
+  pub tree-total : {p q : Verdict} {ws vs : List Node} → Tree frame (claim f i p) ws
+      → Tree frame (claim f i q) vs → AtOrBefore cost ws vs ⊎ AtOrBefore cost vs ws
   tree-total {ws} {vs} t s = by-order (costOf cost ws) (costOf cost vs)
       (λ h. inl (cheaper h))
       (λ e. elim (tree-compared t s) [
@@ -181,4 +189,5 @@ module _ {cost : Cost} {frame : Frame} {f : Formula} {i : ℕ} where
       (λ h. inr (cheaper h))
 
   pub least-one : {ws vs : List Node} → Least cost frame f i ws → Least cost frame f i vs → ws ≡ vs
-  least-one {ws} {vs} l m = at-antisymmetric (l .least (m .verdict) vs (m .valid)) (m .least (l .verdict) ws (l .valid))
+  least-one {ws} {vs} l m =
+      at-antisymmetric (l .least (m .verdict) vs (m .valid)) (m .least (l .verdict) ws (l .valid))

@@ -1,5 +1,5 @@
--- Words that are a forest for their claims break off nowhere, others at one place at most; whole trees in front move it by their length.
--- Assumes nothing.
+-- Words that are a forest for their claims break off nowhere, others at one place at most; whole trees in
+-- front move it by their length.
 use Prim.Native.Nat.{ℕ, suc, _+_, _≤_}
 use mathlib.Core.Path.{_≡_, refl, ap}
 use mathlib.Core.List.{List, _∷_, _++_, append-assoc}
@@ -33,7 +33,8 @@ module _ {frame : Frame} where
   breaks-within leftover = omega arith
   breaks-within (later r b) = omega (arith, breaks-within b)
 
-  pub breaks-one : {cs : List Claim} {ws : List Node} {p q : ℕ} → Breaks frame cs ws p → Breaks frame cs ws q → p ≡ q
+  pub breaks-one : {cs : List Claim} {ws : List Node} {p q : ℕ} → Breaks frame cs ws p → Breaks frame cs ws q
+      → p ≡ q
   breaks-one (wrong n) (wrong m) = refl
   breaks-one (wrong n) (later s d) = absurd (n _ s)
   breaks-one missing missing = refl
@@ -45,5 +46,6 @@ module _ {frame : Frame} where
   laid-or-breaks (laid r l) (wrong n) = n _ r
   laid-or-breaks (laid r l) (later s b) = laid-or-breaks l (rw (needs-one s r) at b)
 
-  pub forest-or-breaks : {cs : List Claim} {ws : List Node} {p : ℕ} → Forest frame cs ws → Breaks frame cs ws p → ⊥
+  pub forest-or-breaks : {cs : List Claim} {ws : List Node} {p : ℕ} → Forest frame cs ws
+      → Breaks frame cs ws p → ⊥
   forest-or-breaks fs = laid-or-breaks (forest-laid fs)

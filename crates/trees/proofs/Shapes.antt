@@ -1,5 +1,5 @@
--- A rule by its shape: a first part or none and then a run, no part later than the claim; or ahead, as an until looks.
--- Assumes nothing.
+-- A rule by its shape: a first part or none and then a run, no part later than the
+-- claim; or ahead, as an until looks.
 use Prim.Native.Nat.{ℕ, _+_, _-_, _<_, _≤_}
 use mathlib.Core.Path.{_≡_}
 use mathlib.Core.List.{List, [], _∷_, _++_}
@@ -7,9 +7,9 @@ use native.Mathlib.Omega.{arith}
 use Rattle.rules.specs.Formula.{Formula, atom, until, height}
 use Rattle.rules.specs.declared.Side.the-variants.{Past, Future}
 use Rattle.trees.specs.Nodes.{Node, node}
-use Rattle.trees.specs.Rules.{Frame, Claim, claim, run, Rule}
-use Rattle.trees.specs.Rules.{rule1, rule2, rule3, rule4, rule5, rule6, rule7, rule8}
-use Rattle.trees.specs.Rules.{rule9, rule10, rule11, rule12, rule13, rule14, rule15, rule16}
+use Rattle.trees.specs.Rules.{Frame, Claim, claim, run, Rule, rule1, rule2, rule3, rule4, rule5, rule6}
+use Rattle.trees.specs.Rules.{rule7, rule8, rule9, rule10, rule11, rule12, rule13, rule14, rule15}
+use Rattle.trees.specs.Rules.{rule16}
 use Rattle.trees.specs.declared.Verdict.{Verdict}
 use Rattle.trees.specs.declared.Verdict.the-variants.{Holds, Violated}
 
@@ -18,8 +18,8 @@ pub record PartOf (less : ℕ) (f g : Formula) : Type 0 where
   pub past : height Past f ≤ height Past g
   pub future : height Future f + less ≤ height Future g
 
--- A root x for c that looks behind: at k for its first part h, if there is one, and then at n positions for its
--- members m, from a first one on.
+-- A root x for c that looks behind: at k for its first part h, if there is one, and then at n positions for
+-- its members m, from a first one on.
 pub record Behind (c : Claim) (x : Node)
     (fixed : ℕ) (h : Formula) (k : ℕ) (m : Formula) (from n : ℕ) : Type 0 where
   pub rule : x .rule ≤ 13
@@ -66,10 +66,12 @@ shape-of (rule15 some) = looks (cut some)
 shape-of (rule16 e) = looks (through e)
 
 -- rules 1 and 2 have no parts
-pub leaf-needs : {frame : Frame} {c : Claim} {x : Node} {needs : List Claim} → Rule frame c x needs → x .rule < 3 → needs ≡ []
+pub leaf-needs : {frame : Frame} {c : Claim} {x : Node} {needs : List Claim} → Rule frame c x needs
+    → x .rule < 3 → needs ≡ []
 leaf-needs r lt = by (shape-of r) lt
   where
-    by : {frame : Frame} {c : Claim} {x : Node} {needs : List Claim} → Shape frame c x needs → x .rule < 3 → needs ≡ []
+    by : {frame : Frame} {c : Claim} {x : Node} {needs : List Claim} → Shape frame c x needs → x .rule < 3
+        → needs ≡ []
     by (behind fixed h k m from n t b) lt =
         let none = b .leaf (omega arith) in
         let no-first : fixed ≡ 0 = omega arith in

@@ -1,5 +1,4 @@
 -- Nodes come in the order of their words as numbers, and words are known by their nodes.
--- Assumes nothing.
 use Prim.Native.Nat.{ℕ, _+_, _*_, _/_, _%_, _<_}
 use mathlib.Core.Path.{_≡_, refl, sym, ap, _∙_}
 use mathlib.Core.List.{List, [], _∷_, map}
@@ -36,14 +35,17 @@ module _ (w v : ℕ) where
   before-less (byNumber e d h) = omega (arith, e, d, h)
 
   -- words that agree in all three fields are one word
-  no-less : w < v → w / 16777216 ≡ v / 16777216 → w / 65536 % 256 ≡ v / 65536 % 256 → w % 65536 ≡ v % 65536 → ⊥
-  no-less lt r a n = let same = node-one w v (λ i. record { rule = r i; atom = a i; number = n i }) in same-not-less same lt
+  no-less : w < v → w / 16777216 ≡ v / 16777216 → w / 65536 % 256 ≡ v / 65536 % 256 → w % 65536 ≡ v % 65536
+      → ⊥
+  no-less lt r a n =
+      let same = node-one w v (λ i. record { rule = r i; atom = a i; number = n i }) in same-not-less same lt
 
   less-before : w < v → NodeBefore (nodeOf w) (nodeOf v)
   less-before lt =
       by-order (w / 16777216) (v / 16777216) (λ h. byRule h)
       (λ r. by-order (w / 65536 % 256) (v / 65536 % 256) (λ h. byAtom r h)
-      (λ a. by-order (w % 65536) (v % 65536) (λ h. byNumber r a h) (λ n. absurd (no-less lt r a n)) (λ h. absurd (omega (arith, r, a, h, lt))))
+      (λ a. by-order (w % 65536) (v % 65536) (λ h. byNumber r a h) (λ n. absurd (no-less lt r a n))
+      (λ h. absurd (omega (arith, r, a, h, lt))))
       (λ h. absurd (omega (arith, r, h, lt))))
       (λ h. absurd (omega (arith, h, lt)))
 

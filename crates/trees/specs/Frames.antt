@@ -10,4 +10,5 @@ abbrev pub windowCount : ℕ → ℕ → ℕ → ℕ → ℕ
 windowCount u v i h = max i (u + v * h) + v - i
 
 abbrev pub scheduleFrame : List ℕ → List ℕ → Frame
-scheduleFrame prefix loop = record { letter = letterAt prefix loop; count = windowCount (length prefix) (length loop) }
+scheduleFrame prefix loop =
+    record { letter = letterAt prefix loop; count = windowCount (length prefix) (length loop) }

@@ -3,7 +3,7 @@ pub mod Rules
 pub mod Trees
 pub mod Place
 pub mod Frames
-pub mod Table
-pub mod Plans
-pub mod Walks
 pub mod Least
+pub mod Means
+pub mod Verdicts
+pub mod inside

@@ -1,5 +1,4 @@
 -- An entry's atom is below 32, so it fits the field of a word.
--- Assumes nothing.
 use Prim.Native.Nat.{ℕ, _/_, _%_, _<_}
 use mathlib.Core.Path.{_≡_}
 use mathlib.Core.Bool.{true, _&&_}
@@ -14,7 +13,8 @@ use Rattle.rules.specs.declared.Entry.the-variants.{One, Broken}
 use Rattle.rules.specs.declared.Unary.the-variants.{Not}
 use Rattle.rules.specs.declared.Binary.{Binary}
 use Rattle.rules.specs.declared.Binary.the-variants.{Or, And, Since, Until}
-use Rattle.rules.proofs.Entries.{cond-elim, and-both}
+use Rattle.rules.proofs.Entries.{cond-elim}
+use Rattle.schedule.proofs.Tests.{and-both}
 use Rattle.trees.proofs.Needs.{formulaAtom}
 
 record SmallAtom (x : Entry) : Type 0 where
@@ -39,7 +39,8 @@ atom-small i w =
     let none : SmallAtom Broken = record { small = λ part. omega arith } in
     let negated : SmallAtom (One Not l) = record { small = λ part. omega arith } in
     cond-elim SmallAtom (eqb k 0)
-    (λ _. cond-elim SmallAtom (isAlone 32 l r) (λ e. record { small = λ part. alone-small l r e }) (λ _. none))
+    (λ _. cond-elim SmallAtom (isAlone 32 l r)
+    (λ e. record { small = λ part. alone-small l r e }) (λ _. none))
     (λ _. cond-elim SmallAtom (eqb k 1) (λ _. cond-elim SmallAtom (isAlone i l r) (λ _. negated) (λ _. none))
     (λ _. cond-elim SmallAtom (areEarlier i l r && (leb 2 k && leb k 5))
     (λ _. record { small = λ part. joined-small (binaryOf k) (part l) (part r) }) (λ _. none))) .small

@@ -1,17 +1,6 @@
-pub mod Choices
-pub mod Scanning
-pub mod RootLaws
 pub mod Words
-pub mod Sums
-pub mod Meets
-pub mod Finds
-pub mod PartPrices
-pub mod ListRoots
-pub mod ListFinds
-pub mod PlainFinds
 pub mod Atoms
 pub mod Leading
-pub mod Putting
 pub mod Underway
 pub mod Planned
 pub mod Determined

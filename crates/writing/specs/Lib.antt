@@ -1,3 +1,1 @@
-pub mod Scans
-pub mod Roots
-pub mod Writes
+pub mod inside

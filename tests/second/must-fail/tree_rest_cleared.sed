@@ -1,2 +1,2 @@
 # reference.cpp: the tree buffer is cleared before the words are written.
-s/std::ranges::copy(words, tree\.begin());/std::ranges::fill(tree, 0), std::ranges::copy(words, tree.begin());/
+s/std::ranges::copy(words, tree\.begin());/std::ranges::fill(tree, 0), &/

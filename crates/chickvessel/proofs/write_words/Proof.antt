@@ -1,22 +1,19 @@
 -- `chickvessel::write_words` meets its contract: the filling, what is written out of it, and the clearing.
--- Assumes nothing.
 use mathlib.Core.Path.{sym, subst}
 use native.Mathlib.Omega.{arith}
 use borrow.Author.Needs.{needs}
 use denote.Ref.{now}
 use Rattle.schedule.specs.Tests.{AllPass}
-use Rattle.chickvessel.specs.Questions.{Question, question}
-use Rattle.chickvessel.specs.Worked.{workTests}
-use Rattle.chickvessel.proofs.Limits.{work-limited}
+use Rattle.asking.specs.Questions.{Question, question, workTests}
+use Rattle.finding.proofs.Limits.{work-limited}
 use Rattle.chickvessel.proofs.WritingOut.{wrote-out}
 use Rattle.chickvessel.proofs.write_words.Statement.{statement}
 use Rattle.chickvessel.proofs.write_words.Tie as tie
 
 abbrev asked : tie.Start → Question
-asked c = question (now (c .args .prefix)) (now (c .args .again)) (now (c .args .words)) (c .args .entry) (c .args .position)
-
-filled-requires : tie.Need-filled-requires
-filled-requires c κs = search needs
+asked c =
+    question (now (c .args .prefix)) (now (c .args .looped)) (now (c .args .table)) (c .args .entry)
+    (c .args .position)
 
 write-out-requires : tie.Need-write-out-requires
 write-out-requires c κs =
@@ -34,12 +31,6 @@ clear-requires c κs =
     let begun = filled .before .before .before .before .before .before .before in
     omega (arith, filled .filled .ensures .fills .same-length, work-limited _ _ (begun .pre) .room)
 
-same-length : tie.Need-same-length
-same-length c = search needs
-
-same-length-2 : tie.Need-same-length-2
-same-length-2 c = search needs
-
 returns : tie.Need-returns
 returns c =
     let clear = c .before .before in
@@ -52,9 +43,9 @@ pub write-words-spec : {M : Type 1} → statement M
 write-words-spec =
     tie.close
     (tie.spec
-    filled-requires
+    (λ c κs. search needs)
     write-out-requires
     clear-requires
-    same-length
-    same-length-2
+    (λ c. search needs)
+    (λ c. search needs)
     returns)

@@ -1,5 +1,4 @@
 -- `decimals::figure` meets its contract.
--- Assumes nothing.
 use mathlib.Core.Logic.{inl, inr}
 use native.Mathlib.Omega.{arith}
 use borrow.Author.Needs.{needs}
@@ -12,11 +11,14 @@ returns c = (omega arith, record { figure = λ lt. absurd (omega arith); none = 
 returns-2 : tie.Need-returns-2
 returns-2 c = (omega arith, record { figure = λ lt. absurd (omega arith); none = λ _. inr (c .if2 .taken) })
 
-sub-result : tie.Need-sub-result
-sub-result c = search needs
-
 returns-3 : tie.Need-returns-3
-returns-3 c = (omega (arith, c .if2 .left), record { figure = λ lt. omega (arith, c .before .if1 .left); none = λ le. absurd (omega (arith, c .if2 .left)) })
+returns-3 c = (
+  omega (arith, c .if2 .left),
+  record {
+    figure = λ lt. omega (arith, c .before .if1 .left);
+    none = λ le. absurd (omega (arith, c .if2 .left));
+  },
+)
 
 pub figure-spec : {M : Type 1} → statement M
-figure-spec = tie.close (tie.spec returns returns-2 sub-result returns-3)
+figure-spec = tie.close (tie.spec returns returns-2 (λ c. search needs) returns-3)

@@ -1,14 +1,15 @@
--- `questions::commas` meets its contract. The loop's invariant: numbers are read up to a comma, and what follows decides the rest.
--- Assumes nothing.
+-- `questions::commas` meets its contract. The loop's invariant: numbers are read up to a comma,
+-- and what follows decides the rest.
 use native.Mathlib.Omega.{arith}
 use borrow.Author.Needs.{needs}
 use mathlib.Core.Path.{subst}
 use Prim.Native.Nat.{_-_}
 use lib.ListN.{length}
 use denote.Ref.{now}
-use Rattle.decimals.specs.Numbers.{Numbered}
-use Rattle.questions.specs.Lists.{Lists}
-use Rattle.questions.proofs.Going.{Going, go-none, go-length, go-put, go-wrong, go-end, go-other, go-done, go-turn}
+use Rattle.decimals.specs.inside.Numbers.{Numbered}
+use Rattle.questions.specs.inside.Lists.{Lists}
+use Rattle.questions.proofs.Going.{Going, go-none, go-length, go-put, go-wrong, go-end, go-other}
+use Rattle.questions.proofs.Going.{go-done, go-turn}
 use Rattle.questions.proofs.commas.Statement.{statement}
 use Rattle.questions.proofs.commas.Tie as tie
 
@@ -21,15 +22,6 @@ abbrev μ-loop : tie.MeasureT-loop
 loop-holds : tie.Need-loop-holds Inv-loop μ-loop
 loop-holds c = go-none (c .before .before .pre)
 
-number-requires : tie.Need-number-requires Inv-loop μ-loop
-number-requires c κs = search needs
-
-enum-known-n : tie.Need-enum-known-n Inv-loop μ-loop
-enum-known-n c = search needs
-
-enum-told : tie.Need-enum-told Inv-loop μ-loop
-enum-told c = search needs
-
 same-length : tie.Need-same-length Inv-loop μ-loop
 same-length c = go-length (c .before .before .before .loop .inv)
 
@@ -38,7 +30,9 @@ unfolding Lists
 returns c =
     let l = c .before .before .before in
     let a = l .before .before .before .args in
-    go-wrong (l .loop .inv) (subst (Numbered (now (a .text)) (l .loop .at) (a .max)) (c .enum-told .given .1) (c .before .before .number .ensures))
+    go-wrong (l .loop .inv)
+    (subst (Numbered (now (a .text)) (l .loop .at) (a .max)) (c .enum-told .given .1)
+    (c .before .before .number .ensures))
 
 same-length-2 : tie.Need-same-length-2 Inv-loop μ-loop
 same-length-2 c = go-length (c .before .before .before .before .before .loop .inv)
@@ -49,28 +43,18 @@ returns-2 c =
     let k = c .before .before in
     let l = k .before .before .before in
     let a = l .before .before .before .args in
-    let r = subst (Numbered (now (a .text)) (l .loop .at) (a .max)) (k .n .given .1) (k .before .before .number .ensures) in
+    let r = subst (Numbered (now (a .text)) (l .loop .at) (a .max)) (k .n .given .1)
+    (k .before .before .number .ensures) in
     go-end (l .loop .inv) r (c .if1 .taken)
-
-put-requires : tie.Need-put-requires Inv-loop μ-loop
-put-requires c κs = search needs
-
-add-count : tie.Need-add-count Inv-loop μ-loop
-add-count c = search needs
-
-shared-slice-read-if2 : tie.Need-shared-slice-read-if2 Inv-loop μ-loop
-shared-slice-read-if2 c = search needs
-
-add-t17 : tie.Need-add-t17 Inv-loop μ-loop
-add-t17 c = search needs
 
 same-length-3 : tie.Need-same-length-3 Inv-loop μ-loop
 same-length-3 c =
     let k = c .before .before .before .before .before .before .before .before in
     let l = k .before .before .before in
     let a = l .before .before .before .args in
-    let r = subst (Numbered (now (a .text)) (l .loop .at) (a .max)) (k .n .given .1) (k .before .before .number .ensures) in
-    go-put (l .loop .inv) r (c .before .before .before .before .put .ensures)
+    let r = subst (Numbered (now (a .text)) (l .loop .at) (a .max)) (k .n .given .1)
+    (k .before .before .number .ensures) in
+    go-put (l .loop .inv) r (c .before .before .before .before .store .ensures)
 
 returns-3 : tie.Need-returns-3 Inv-loop μ-loop
 unfolding Lists
@@ -78,19 +62,19 @@ returns-3 c =
     let k = c .before .before .before .before .before .before .before .before in
     let l = k .before .before .before in
     let a = l .before .before .before .args in
-    let r = subst (Numbered (now (a .text)) (l .loop .at) (a .max)) (k .n .given .1) (k .before .before .number .ensures) in
-    go-done (l .loop .inv) r (c .before .before .before .before .put .ensures) (omega (arith, c .before .before .before .before .before .before .if1 .left)) (c .if2 .taken)
-
-shared-slice-read-if3 : tie.Need-shared-slice-read-if3 Inv-loop μ-loop
-shared-slice-read-if3 c = search needs
+    let r = subst (Numbered (now (a .text)) (l .loop .at) (a .max)) (k .n .given .1)
+    (k .before .before .number .ensures) in
+    go-done (l .loop .inv) r (c .before .before .before .before .store .ensures)
+    (omega (arith, c .before .before .before .before .before .before .if1 .left)) (c .if2 .taken)
 
 same-length-4 : tie.Need-same-length-4 Inv-loop μ-loop
 same-length-4 c =
     let k = c .before .before .before .before .before .before .before .before .before .before in
     let l = k .before .before .before in
     let a = l .before .before .before .args in
-    let r = subst (Numbered (now (a .text)) (l .loop .at) (a .max)) (k .n .given .1) (k .before .before .number .ensures) in
-    go-put (l .loop .inv) r (c .before .before .before .before .before .before .put .ensures)
+    let r = subst (Numbered (now (a .text)) (l .loop .at) (a .max)) (k .n .given .1)
+    (k .before .before .number .ensures) in
+    go-put (l .loop .inv) r (c .before .before .before .before .before .before .store .ensures)
 
 returns-4 : tie.Need-returns-4 Inv-loop μ-loop
 unfolding Lists
@@ -98,18 +82,17 @@ returns-4 c =
     let k = c .before .before .before .before .before .before .before .before .before .before in
     let l = k .before .before .before in
     let a = l .before .before .before .args in
-    let r = subst (Numbered (now (a .text)) (l .loop .at) (a .max)) (k .n .given .1) (k .before .before .number .ensures) in
+    let r = subst (Numbered (now (a .text)) (l .loop .at) (a .max)) (k .n .given .1)
+    (k .before .before .number .ensures) in
     go-other (l .loop .inv) r (c .before .before .if2 .left) (c .if3 .taken)
-
-add-at : tie.Need-add-at Inv-loop μ-loop
-add-at c = search needs
 
 loop-less : tie.Need-loop-less Inv-loop μ-loop
 loop-less c =
     let k = c .before .before .before .before .before .before .before .before .before .before in
     let l = k .before .before .before in
     let a = l .before .before .before .args in
-    let r = subst (Numbered (now (a .text)) (l .loop .at) (a .max)) (k .n .given .1) (k .before .before .number .ensures) in
+    let r = subst (Numbered (now (a .text)) (l .loop .at) (a .max)) (k .n .given .1)
+    (k .before .before .number .ensures) in
     omega (arith, r .0, c .before .before .before .before .before .before .before .before .if1 .left)
 
 loop-again : tie.Need-loop-again Inv-loop μ-loop
@@ -117,8 +100,11 @@ loop-again c =
     let k = c .before .before .before .before .before .before .before .before .before .before in
     let l = k .before .before .before in
     let a = l .before .before .before .args in
-    let r = subst (Numbered (now (a .text)) (l .loop .at) (a .max)) (k .n .given .1) (k .before .before .number .ensures) in
-    go-turn (l .loop .inv) r (c .before .before .before .before .before .before .put .ensures) (omega (arith, c .before .before .before .before .before .before .before .before .if1 .left)) (c .if3 .left)
+    let r = subst (Numbered (now (a .text)) (l .loop .at) (a .max)) (k .n .given .1)
+    (k .before .before .number .ensures) in
+    go-turn (l .loop .inv) r (c .before .before .before .before .before .before .store .ensures)
+    (omega (arith, c .before .before .before .before .before .before .before .before .if1 .left))
+    (c .if3 .left)
 
 pub commas-spec : {M : Type 1} → statement M
 commas-spec =
@@ -127,22 +113,22 @@ commas-spec =
     Inv-loop
     μ-loop
     loop-holds
-    number-requires
-    enum-known-n
-    enum-told
+    (λ c κs. search needs)
+    (λ c. search needs)
+    (λ c. search needs)
     same-length
     returns
     same-length-2
     returns-2
-    put-requires
-    add-count
-    shared-slice-read-if2
-    add-t17
+    (λ c κs. search needs)
+    (λ c. search needs)
+    (λ c. search needs)
+    (λ c. search needs)
     same-length-3
     returns-3
-    shared-slice-read-if3
+    (λ c. search needs)
     same-length-4
     returns-4
-    add-at
+    (λ c. search needs)
     loop-less
     loop-again)

@@ -1,12 +1,12 @@
--- `questions::entry_lines` meets its contract. The loop's invariant: lines of entries stand up to the place, and their words are kept.
--- Assumes nothing.
+-- `questions::entry_lines` meets its contract. The loop's invariant:
+-- lines of entries stand up to the place, and their words are kept.
 use native.Mathlib.Omega.{arith}
 use borrow.Author.Needs.{needs}
 use mathlib.Core.Path.{subst}
 use Prim.Native.Nat.{_-_}
 use lib.ListN.{length}
 use denote.Ref.{now}
-use Rattle.questions.specs.Lists.{Enters}
+use Rattle.questions.specs.inside.Lists.{Enters}
 use Rattle.questions.proofs.Entering.{Entering, enter-none, enter-length, enter-done, enter-turn}
 use Rattle.questions.proofs.entry_lines.Statement.{statement}
 use Rattle.questions.proofs.entry_lines.Tie as tie
@@ -20,46 +20,39 @@ abbrev μ-loop : tie.MeasureT-loop
 loop-holds : tie.Need-loop-holds Inv-loop μ-loop
 loop-holds c = enter-none (c .before .before .pre)
 
-entry-line-requires : tie.Need-entry-line-requires Inv-loop μ-loop
-entry-line-requires c κs = search needs
-
-enum-known-word : tie.Need-enum-known-word Inv-loop μ-loop
-enum-known-word c = search needs
-
-enum-told : tie.Need-enum-told Inv-loop μ-loop
-enum-told c = search needs
-
 same-length : tie.Need-same-length Inv-loop μ-loop
 same-length c = enter-length (c .before .before .before .loop .inv)
 
 returns : tie.Need-returns Inv-loop μ-loop
 returns c =
     let l = c .before .before .before in
-    enter-done (l .loop .inv) (subst (Enters (now (l .before .before .before .args .text)) (l .loop .at)) (c .enum-told .given .1) (c .before .before .entry-line .ensures))
-
-put-requires : tie.Need-put-requires Inv-loop μ-loop
-put-requires c κs = search needs
+    enter-done (l .loop .inv)
+    (subst (Enters (now (l .before .before .before .args .text)) (l .loop .at)) (c .enum-told .given .1)
+    (c .before .before .entry-line .ensures))
 
 add-count : tie.Need-add-count Inv-loop μ-loop
 add-count c =
     let k = c .before .before .before .before .before in
     let l = k .before .before .before in
-    let e = subst (Enters (now (l .before .before .before .args .text)) (l .loop .at)) (k .word .given .1) (k .before .before .entry-line .ensures) in
+    let e = subst (Enters (now (l .before .before .before .args .text)) (l .loop .at)) (k .word .given .1)
+    (k .before .before .entry-line .ensures) in
     omega (arith, l .loop .inv .past, e .past, e .within)
 
 loop-less : tie.Need-loop-less Inv-loop μ-loop
 loop-less c =
     let k = c .before .before .before .before .before in
     let l = k .before .before .before in
-    let e = subst (Enters (now (l .before .before .before .args .text)) (l .loop .at)) (k .word .given .1) (k .before .before .entry-line .ensures) in
+    let e = subst (Enters (now (l .before .before .before .args .text)) (l .loop .at)) (k .word .given .1)
+    (k .before .before .entry-line .ensures) in
     omega (arith, l .loop .inv .within, e .past, e .within)
 
 loop-again : tie.Need-loop-again Inv-loop μ-loop
 loop-again c =
     let k = c .before .before .before .before .before in
     let l = k .before .before .before in
-    let e = subst (Enters (now (l .before .before .before .args .text)) (l .loop .at)) (k .word .given .1) (k .before .before .entry-line .ensures) in
-    enter-turn (l .loop .inv) e (c .before .before .put .ensures)
+    let e = subst (Enters (now (l .before .before .before .args .text)) (l .loop .at)) (k .word .given .1)
+    (k .before .before .entry-line .ensures) in
+    enter-turn (l .loop .inv) e (c .before .before .store .ensures)
 
 pub entry-lines-spec : {M : Type 1} → statement M
 entry-lines-spec =
@@ -68,12 +61,12 @@ entry-lines-spec =
     Inv-loop
     μ-loop
     loop-holds
-    entry-line-requires
-    enum-known-word
-    enum-told
+    (λ c κs. search needs)
+    (λ c. search needs)
+    (λ c. search needs)
     same-length
     returns
-    put-requires
+    (λ c κs. search needs)
     add-count
     loop-less
     loop-again)

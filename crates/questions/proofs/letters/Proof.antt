@@ -1,5 +1,4 @@
 -- `questions::letters` meets its contract: a law a return.
--- Assumes nothing.
 use native.Mathlib.Omega.{arith}
 use borrow.Author.Needs.{needs}
 use mathlib.Core.Path.{refl, subst}
@@ -8,28 +7,27 @@ use denote.Ref.{now}
 use Prim.Native.Nat.{_+_}
 use lib.ListN.{length}
 use Rattle.questions.specs.Texts.{Letters}
-use Rattle.questions.specs.Lists.{Keyword, Lists}
+use Rattle.questions.specs.inside.Lists.{Keyword, Lists}
 use Rattle.questions.specs.declared.Listing.the-variants.{Wrong, Read}
 use Rattle.questions.proofs.Wording.{word-wrong, word-lists, letters-end, letters-none, letters-some}
 use Rattle.questions.proofs.letters.Statement.{statement}
 use Rattle.questions.proofs.letters.Tie as tie
-
-begins-requires : tie.Need-begins-requires
-begins-requires c κs = search needs
 
 returns : tie.Need-returns
 unfolding Lists
 returns c =
     let k = c .before in
     let a = k .before .before .before .before .args in
-    let is = subst (Keyword (now (a .text)) (a .at) (now (a .word))) (not-true _ (c .if1 .taken)) (k .begins .ensures) in
+    let is = subst (Keyword (now (a .text)) (a .at) (now (a .word))) (not-true _ (c .if1 .taken))
+    (k .begins .ensures) in
     word-wrong Letters (now (a .text)) (a .at) (now (a .word)) is
 
 add-from : tie.Need-add-from
 add-from c =
     let k = c .before in
     let a = k .before .before .before .before .args in
-    let is = subst (Keyword (now (a .text)) (a .at) (now (a .word))) (not-false _ (c .if1 .left)) (k .begins .ensures) in
+    let is = subst (Keyword (now (a .text)) (a .at) (now (a .word))) (not-false _ (c .if1 .left))
+    (k .begins .ensures) in
     let within = is .there refl .1 in search needs
 
 returns-2 : tie.Need-returns-2
@@ -37,48 +35,46 @@ unfolding Lists
 returns-2 c =
     let k = c .before .before in
     let a = k .before .before .before .before .args in
-    let is = subst (Keyword (now (a .text)) (a .at) (now (a .word))) (not-false _ (c .before .if1 .left)) (k .begins .ensures) in
-    word-lists Letters (now (a .text)) (a .at) (now (a .word)) is (now (a .keep)) (now (a .keep)) Wrong (letters-end (now (a .text)) _ (c .if2 .taken))
-
-shared-slice-read-if3 : tie.Need-shared-slice-read-if3
-shared-slice-read-if3 c = search needs
-
-add-t11 : tie.Need-add-t11
-add-t11 c = search needs
+    let is = subst (Keyword (now (a .text)) (a .at) (now (a .word))) (not-false _ (c .before .if1 .left))
+    (k .begins .ensures) in
+    word-lists Letters (now (a .text)) (a .at) (now (a .word)) is (now (a .keep)) (now (a .keep)) Wrong
+    (letters-end (now (a .text)) _ (c .if2 .taken))
 
 returns-3 : tie.Need-returns-3
 unfolding Lists
 returns-3 c =
     let k = c .before .before .before .before in
     let a = k .before .before .before .before .args in
-    let is = subst (Keyword (now (a .text)) (a .at) (now (a .word))) (not-false _ (c .before .before .before .if1 .left)) (k .begins .ensures) in
+    let is = subst (Keyword (now (a .text)) (a .at) (now (a .word)))
+    (not-false _ (c .before .before .before .if1 .left)) (k .begins .ensures) in
     let from = a .at + length (now (a .word)) in
-    word-lists Letters (now (a .text)) (a .at) (now (a .word)) is (now (a .keep)) (now (a .keep)) (Read 0 (from + 1)) (letters-none (now (a .text)) from (now (a .keep)) (omega (arith, c .before .before .if2 .left)) (c .if3 .taken))
-
-commas-requires : tie.Need-commas-requires
-commas-requires c κs = search needs
-
-same-length : tie.Need-same-length
-same-length c = search needs
+    word-lists Letters (now (a .text)) (a .at) (now (a .word)) is (now (a .keep)) (now (a .keep))
+    (Read 0 (from + 1))
+    (letters-none (now (a .text)) from (now (a .keep)) (omega (arith, c .before .before .if2 .left))
+    (c .if3 .taken))
 
 returns-4 : tie.Need-returns-4
 returns-4 c =
     let k = c .before .before .before .before .before .before .before .before in
     let a = k .before .before .before .before .args in
-    let is = subst (Keyword (now (a .text)) (a .at) (now (a .word))) (not-false _ (c .before .before .before .before .before .before .before .if1 .left)) (k .begins .ensures) in
-    word-lists Letters (now (a .text)) (a .at) (now (a .word)) is _ _ _ (letters-some (now (a .text)) _ _ _ _ (c .before .before .before .before .if3 .left) (c .before .before .commas .ensures))
+    let is = subst (Keyword (now (a .text)) (a .at) (now (a .word)))
+    (not-false _ (c .before .before .before .before .before .before .before .if1 .left))
+    (k .begins .ensures) in
+    word-lists Letters (now (a .text)) (a .at) (now (a .word)) is _ _ _
+    (letters-some (now (a .text)) _ _ _ _ (c .before .before .before .before .if3 .left)
+    (c .before .before .commas .ensures))
 
 pub letters-spec : {M : Type 1} → statement M
 letters-spec =
     tie.close
     (tie.spec
-    begins-requires
+    (λ c κs. search needs)
     returns
     add-from
     returns-2
-    shared-slice-read-if3
-    add-t11
+    (λ c. search needs)
+    (λ c. search needs)
     returns-3
-    commas-requires
-    same-length
+    (λ c κs. search needs)
+    (λ c. search needs)
     returns-4)

@@ -1,5 +1,4 @@
 -- `rendering::decimal` meets its contract, the number falling at each call.
--- Assumes nothing.
 use Prim.Native.Nat.{ℕ, _<_}
 use mathlib.Core.Path.{_∙_}
 use native.Mathlib.Omega.{arith}
@@ -27,21 +26,6 @@ abbrev claims : ℕ → lts.Claims
 claims t = (decimal-below t, decimal.Post)
 
 module _ (t : ℕ) where
-  cast-out : lts.Need-cast-out (claims t) (decimal-at t) decimal.Post
-  cast-out c = search needs
-
-  add-out : lts.Need-add-out (claims t) (decimal-at t) decimal.Post
-  add-out c = search needs
-
-  slice-write-out : lts.Need-slice-write-out (claims t) (decimal-at t) decimal.Post
-  slice-write-out c = search needs
-
-  add-result : lts.Need-add-result (claims t) (decimal-at t) decimal.Post
-  add-result c = search needs
-
-  same-length : lts.Need-same-length (claims t) (decimal-at t) decimal.Post
-  same-length c = search needs
-
   returns : lts.Need-returns (claims t) (decimal-at t) decimal.Post
   returns c =
       let a = c .before .before in
@@ -52,14 +36,9 @@ module _ (t : ℕ) where
       let a = c .before .before .before in
       (omega (arith, a .pre .0, c .before .if1 .left), a .pre .1)
 
-  cast-out-2 : lts.Need-cast-out-2 (claims t) (decimal-at t) decimal.Post
-  cast-out-2 c = search needs
-
-  add-out-2 : lts.Need-add-out-2 (claims t) (decimal-at t) decimal.Post
-  add-out-2 c = search needs
-
   -- what stands before the last digit has room behind it
-  room : (c : lts.After-slice-known2 (claims t) (decimal-at t) decimal.Post) → c .before .before .decimal .result < length (c .before .before .decimal .last .0)
+  room : (c : lts.After-slice-known2 (claims t) (decimal-at t) decimal.Post)
+      → c .before .before .decimal .result < length (c .before .before .decimal .last .0)
   room c =
       let a = c .before .before .before .before .before .before in
       let p = c .before .before .decimal .ensures in
@@ -69,29 +48,37 @@ module _ (t : ℕ) where
   slice-write-out-2 c = room c
 
   add-result-2 : lts.Need-add-result-2 (claims t) (decimal-at t) decimal.Post
-  add-result-2 c = omega (arith, room c, placed-length (c .before .before .decimal .ensures), c .before .before .before .before .before .before .good .0)
+  add-result-2 c = omega (
+    arith,
+    room c,
+    placed-length (c .before .before .decimal .ensures),
+    c .before .before .before .before .before .before .good .0,
+  )
 
   same-length-2 : lts.Need-same-length-2 (claims t) (decimal-at t) decimal.Post
-  same-length-2 c = length-set (c .before .before .decimal .last .0) (c .before .before .decimal .result) _ ∙ placed-length (c .before .before .decimal .ensures)
+  same-length-2 c =
+      length-set (c .before .before .decimal .last .0) (c .before .before .decimal .result) _
+      ∙ placed-length (c .before .before .decimal .ensures)
 
   returns-2 : lts.Need-returns-2 (claims t) (decimal-at t) decimal.Post
   returns-2 c =
       let a = c .before .before .before .before .before .before in
       let p = c .before .before .decimal .ensures in
-      longer-placed (a .args .at) (a .args .n) _ _ (c .before .before .decimal .result) (a .pre .1) (omega (arith, c .before .before .before .before .if1 .left)) (a .fits .n .fits) p
+      longer-placed (a .args .at) (a .args .n) _ _ (c .before .before .decimal .result) (a .pre .1)
+      (omega (arith, c .before .before .before .before .if1 .left)) (a .fits .n .fits) p
 
 pub +decimal-spec : {M : Type 1} → statement M
 +decimal-spec =
     close μ-decimal λ t. lts.spec (claims t) (decimal-at t) decimal.Post
-    (cast-out t)
-    (add-out t)
-    (slice-write-out t)
-    (add-result t)
-    (same-length t)
+    (λ c. search needs)
+    (λ c. search needs)
+    (λ c. search needs)
+    (λ c. search needs)
+    (λ c. search needs)
     (returns t)
     (decimal-requires t)
-    (cast-out-2 t)
-    (add-out-2 t)
+    (λ c. search needs)
+    (λ c. search needs)
     (slice-write-out-2 t)
     (add-result-2 t)
     (same-length-2 t)

@@ -1,5 +1,5 @@
--- `rendering::node_lines` meets its contract. The loop's invariant: the lines of the words passed are placed, all else is as found.
--- Assumes nothing.
+-- `rendering::node_lines` meets its contract. The loop's invariant:
+-- the lines of the words passed are placed, all else is as found.
 use Prim.Native.Nat.{_-_}
 use native.Mathlib.Omega.{arith}
 use borrow.Author.Needs.{needs}
@@ -17,25 +17,17 @@ abbrev μ-loop : tie.MeasureT-loop
 loop-holds : tie.Need-loop-holds Inv-loop μ-loop
 loop-holds c = lined-none _ _ _ _ (c .before .before .pre .1)
 
-mul-node-line : tie.Need-mul-node-line Inv-loop μ-loop
-mul-node-line c = search needs
-
-shared-slice-read-node-line : tie.Need-shared-slice-read-node-line Inv-loop μ-loop
-shared-slice-read-node-line c = search needs
-
 node-line-requires : tie.Need-node-line-requires Inv-loop μ-loop
-node-line-requires c κs = lined-room (c .before .before .before .loop .inv) (c .before .before .loop-test .taken) (c .before .before .before .before .before .before .pre .1)
-
-add-k : tie.Need-add-k Inv-loop μ-loop
-add-k c = search needs
-
-loop-less : tie.Need-loop-less Inv-loop μ-loop
-loop-less c = search needs
+node-line-requires c κs =
+    lined-room (c .before .before .before .loop .inv) (c .before .before .loop-test .taken)
+    (c .before .before .before .before .before .before .pre .1)
 
 loop-again : tie.Need-loop-again Inv-loop μ-loop
 loop-again c =
     let line = c .before .before .node-line .ensures in
-    lined-more (c .before .before .before .before .before .before .loop .inv) (c .before .before .before .before .before .loop-test .taken) (c .before .before .before .before .before .before .before .before .before .pre .0) (line .0) (line .1)
+    lined-more (c .before .before .before .before .before .before .loop .inv)
+    (c .before .before .before .before .before .loop-test .taken)
+    (c .before .before .before .before .before .before .before .before .before .pre .0) (line .0) (line .1)
 
 same-length : tie.Need-same-length Inv-loop μ-loop
 same-length c = placed-length (c .before .loop .inv .placed)
@@ -50,11 +42,11 @@ node-lines-spec =
     Inv-loop
     μ-loop
     loop-holds
-    mul-node-line
-    shared-slice-read-node-line
+    (λ c. search needs)
+    (λ c. search needs)
     node-line-requires
-    add-k
-    loop-less
+    (λ c. search needs)
+    (λ c. search needs)
     loop-again
     same-length
     returns)

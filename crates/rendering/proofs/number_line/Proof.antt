@@ -1,5 +1,4 @@
 -- `rendering::number_line` meets its contract.
--- Assumes nothing.
 use mathlib.Core.Path.{ap}
 use native.Mathlib.Omega.{arith}
 use borrow.Author.Needs.{needs}
@@ -9,19 +8,21 @@ use Rattle.rendering.proofs.Lines.{number-line-placed}
 use Rattle.rendering.proofs.number_line.Statement.{statement}
 use Rattle.rendering.proofs.number_line.Tie as tie
 
-copy-requires : tie.Need-copy-requires
-copy-requires c κs = search needs
-
 field-requires : tie.Need-field-requires
 field-requires c κs =
     let p = c .before .before .before .copy .ensures in
-    omega (arith, c .before .before .before .before .before .before .before .pre, placed-length p, p .ends, ap length (p .such))
-
-same-length : tie.Need-same-length
-same-length c = search needs
+    omega (
+      arith,
+      c .before .before .before .before .before .before .before .pre,
+      placed-length p,
+      p .ends,
+      ap length (p .such),
+    )
 
 returns : tie.Need-returns
-returns c = number-line-placed (c .before .before .before .before .before .before .copy .ensures) (c .before .before .field .ensures)
+returns c =
+    number-line-placed (c .before .before .before .before .before .before .copy .ensures)
+    (c .before .before .field .ensures)
 
 pub number-line-spec : {M : Type 1} → statement M
-number-line-spec = tie.close (tie.spec copy-requires field-requires same-length returns)
+number-line-spec = tie.close (tie.spec (λ c κs. search needs) field-requires (λ c. search needs) returns)

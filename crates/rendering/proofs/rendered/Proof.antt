@@ -1,5 +1,4 @@
 -- `rendering::rendered` meets its contract.
--- Assumes nothing.
 use mathlib.Core.Path.{ap}
 use native.Mathlib.Omega.{arith}
 use borrow.Author.Needs.{needs}
@@ -9,62 +8,58 @@ use Rattle.rendering.proofs.Answering.{number-line-most, refused-placed
 use Rattle.rendering.proofs.rendered.Statement.{statement}
 use Rattle.rendering.proofs.rendered.Tie as tie
 
-answer-of-requires : tie.Need-answer-of-requires
-answer-of-requires c κs = search needs
-
-slice-aggregate-number-line : tie.Need-slice-aggregate-number-line
-slice-aggregate-number-line c = search needs
-
-number-line-requires : tie.Need-number-line-requires
-number-line-requires c κs = search needs
-
 returns : tie.Need-returns
 returns c =
     let a = c .before .before .before .before .before .before in
-    refused-placed (a .args .outcome) (c .before .before .before .before .answer-of .ensures) (now (a .args .tree)) (c .before .before .before .if1 .taken) (c .number-line .ensures)
+    refused-placed (a .args .outcome) (c .before .before .before .before .answer-of .ensures)
+    (now (a .args .tree)) (c .before .before .before .if1 .taken) (c .number-line .ensures)
 
 verdict-line-requires : tie.Need-verdict-line-requires
 verdict-line-requires c κs =
     let a = c .before .before .before .before in
-    let known = verdict-known (a .args .outcome) (c .before .before .answer-of .ensures) (now (a .args .tree)) (c .before .if1 .left) in
+    let known = verdict-known (a .args .outcome) (c .before .before .answer-of .ensures) (now (a .args .tree))
+    (c .before .if1 .left) in
     (known .0, known .1, search needs)
-
-slice-aggregate-number-line-2 : tie.Need-slice-aggregate-number-line-2
-slice-aggregate-number-line-2 c = search needs
-
-number-line-requires-2 : tie.Need-number-line-requires-2
-number-line-requires-2 c κs = search needs
-
-cast-node-lines : tie.Need-cast-node-lines
-cast-node-lines c = search needs
 
 node-lines-requires : tie.Need-node-lines-requires
 node-lines-requires c κs =
     let a = c .before .before .before .before .before .before .before .before .before .before in
-    let size = ap (λ f. f .size) (c .before .before .before .before .before .before .before .before .answer-of .ensures) in
+    let size = ap (λ f. f .size)
+    (c .before .before .before .before .before .before .before .before .answer-of .ensures) in
     let v = c .before .before .before .before .before .verdict-line .ensures in
     let s = c .before .before .number-line2 .ensures in (
       omega (arith, size, a .pre .1),
-      omega (arith, size, a .pre .0, v .1, number-line-most s (omega (arith, size, a .pre .0)), placed-length (v .0), placed-length s),
+      omega (
+        arith,
+        size,
+        a .pre .0,
+        v .1,
+        number-line-most s (omega (arith, size, a .pre .0)),
+        placed-length (v .0),
+        placed-length s,
+      ),
     )
 
 returns-2 : tie.Need-returns-2
 returns-2 c =
     let a = c .before .before .before .before .before .before .before .before .before .before .before in
-    judged-placed (a .args .outcome) (c .before .before .before .before .before .before .before .before .before .answer-of .ensures) (now (a .args .tree)) (c .before .before .before .before .before .before .before .before .if1 .left) (c .before .before .before .before .before .before .verdict-line .ensures .0)
+    judged-placed (a .args .outcome)
+    (c .before .before .before .before .before .before .before .before .before .answer-of .ensures)
+    (now (a .args .tree)) (c .before .before .before .before .before .before .before .before .if1 .left)
+    (c .before .before .before .before .before .before .verdict-line .ensures .0)
     (c .before .before .before .number-line2 .ensures) (c .node-lines .ensures)
 
 pub rendered-spec : {M : Type 1} → statement M
 rendered-spec =
     tie.close
     (tie.spec
-    answer-of-requires
-    slice-aggregate-number-line
-    number-line-requires
+    (λ c κs. search needs)
+    (λ c. search needs)
+    (λ c κs. search needs)
     returns
     verdict-line-requires
-    slice-aggregate-number-line-2
-    number-line-requires-2
-    cast-node-lines
+    (λ c. search needs)
+    (λ c κs. search needs)
+    (λ c. search needs)
     node-lines-requires
     returns-2)

@@ -1,23 +1,10 @@
 -- `rendering::wrong_text` meets its contract.
--- Assumes nothing.
 use native.Mathlib.Omega.{arith}
 use borrow.Author.Needs.{needs}
 use Rattle.rendering.proofs.Placing.{placed-length}
 use Rattle.rendering.proofs.Answering.{number-line-most, wrong-placed}
 use Rattle.rendering.proofs.wrong_text.Statement.{statement}
 use Rattle.rendering.proofs.wrong_text.Tie as tie
-
-slice-aggregate-number-line : tie.Need-slice-aggregate-number-line
-slice-aggregate-number-line c = search needs
-
-number-line-requires : tie.Need-number-line-requires
-number-line-requires c κs = search needs
-
-slice-aggregate-number-line-2 : tie.Need-slice-aggregate-number-line-2
-slice-aggregate-number-line-2 c = search needs
-
-cast-number-line : tie.Need-cast-number-line
-cast-number-line c = search needs
 
 number-line-requires-2 : tie.Need-number-line-requires-2
 number-line-requires-2 c κs =
@@ -31,9 +18,9 @@ pub wrong-text-spec : {M : Type 1} → statement M
 wrong-text-spec =
     tie.close
     (tie.spec
-    slice-aggregate-number-line
-    number-line-requires
-    slice-aggregate-number-line-2
-    cast-number-line
+    (λ c. search needs)
+    (λ c κs. search needs)
+    (λ c. search needs)
+    (λ c. search needs)
     number-line-requires-2
     returns)

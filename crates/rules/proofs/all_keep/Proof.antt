@@ -1,5 +1,4 @@
 -- `rules::all_keep` meets its contract. The loop's invariant: every entry passed keeps the kind table.
--- Assumes nothing.
 use mathlib.Core.Path.{_≡_, refl, sym, _∙_}
 use mathlib.Core.Bool.{true}
 use Prim.Native.Nat.{_≤_, _-_}
@@ -13,46 +12,35 @@ use Rattle.rules.proofs.all_keep.Statement.{statement}
 use Rattle.rules.proofs.all_keep.Tie as tie
 
 abbrev Inv-loop : tie.InvT-loop
-Inv-loop list e₀ e = (e ≤ length list) × (allBelow e (keptAt list) ≡ true)
+Inv-loop list entry₀ e = (e ≤ length list) × (allBelow e (keptAt list) ≡ true)
 
 abbrev μ-loop : tie.MeasureT-loop
-μ-loop list e₀ e = length list - e
+μ-loop list entry₀ e = length list - e
 
 loop-holds : tie.Need-loop-holds Inv-loop μ-loop
 loop-holds c = (search needs, refl)
 
-mul-keeps : tie.Need-mul-keeps Inv-loop μ-loop
-mul-keeps c = search needs
-
-shared-slice-read-keeps : tie.Need-shared-slice-read-keeps Inv-loop μ-loop
-shared-slice-read-keeps c = search needs
-
-keeps-requires : tie.Need-keeps-requires Inv-loop μ-loop
-keeps-requires c κs = search needs
-
 returns : tie.Need-returns Inv-loop μ-loop
 unfolding keepsAll
 returns c =
-    let list = now (c .before .before .before .before .before .before .args .list) in
+    let list = now (c .before .before .before .before .before .before .args .table) in
     sym (all-stop (keptAt list) (length list) _ (c .before .before .before .loop-test .taken)
     (sym (c .before .keeps .ensures) ∙ not-true _ (c .if1 .taken)))
 
-add-e : tie.Need-add-e Inv-loop μ-loop
-add-e c = search needs
-
-loop-less : tie.Need-loop-less Inv-loop μ-loop
-loop-less c = search needs
-
 loop-again : tie.Need-loop-again Inv-loop μ-loop
 loop-again c =
-    let list = now (c .before .before .before .before .before .before .args .list) in
-    (search needs, all-more (keptAt list) _ (c .before .before .before .before .loop .inv .1) (sym (c .before .keeps .ensures) ∙ not-false _ (c .if1 .left)))
+    let list = now (c .before .before .before .before .before .before .args .table) in (
+      search needs,
+      all-more (keptAt list) _ (c .before .before .before .before .loop .inv .1)
+          (sym (c .before .keeps .ensures) ∙ not-false _ (c .if1 .left)),
+    )
 
 returns-2 : tie.Need-returns-2 Inv-loop μ-loop
 unfolding keepsAll
 returns-2 c =
-    let list = now (c .before .before .before .args .list) in
-    sym (all-done (keptAt list) (length list) _ (c .before .loop .inv .0) (c .loop-test .left) (c .before .loop .inv .1))
+    let list = now (c .before .before .before .args .table) in
+    sym (all-done (keptAt list) (length list) _ (c .before .loop .inv .0) (c .loop-test .left)
+    (c .before .loop .inv .1))
 
 pub all-keep-spec : {M : Type 1} → statement M
 all-keep-spec =
@@ -61,11 +49,11 @@ all-keep-spec =
     Inv-loop
     μ-loop
     loop-holds
-    mul-keeps
-    shared-slice-read-keeps
-    keeps-requires
+    (λ c. search needs)
+    (λ c. search needs)
+    (λ c κs. search needs)
     returns
-    add-e
-    loop-less
+    (λ c. search needs)
+    (λ c. search needs)
     loop-again
     returns-2)

@@ -1,5 +1,4 @@
 -- `rules::alone` meets its contract.
--- Assumes nothing.
 use Rattle.rules.proofs.Entries.{alone-below, alone-past}
 use Rattle.rules.proofs.alone.Statement.{statement}
 use Rattle.rules.proofs.alone.Tie as tie

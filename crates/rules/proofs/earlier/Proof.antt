@@ -1,5 +1,4 @@
 -- `rules::earlier` meets its contract.
--- Assumes nothing.
 use Rattle.rules.proofs.Entries.{earlier-below, earlier-past}
 use Rattle.rules.proofs.earlier.Statement.{statement}
 use Rattle.rules.proofs.earlier.Tie as tie

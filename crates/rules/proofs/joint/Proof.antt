@@ -1,5 +1,4 @@
 -- `rules::joint` meets its contract: a kind a return.
--- Assumes nothing.
 use mathlib.Core.Path.{sym, ap}
 use Rattle.rules.specs.Entries.{binaryOf}
 use Rattle.rules.proofs.Entries.{joint-last}

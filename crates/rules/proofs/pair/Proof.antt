@@ -1,5 +1,4 @@
 -- `rules::pair` meets its contract: a row of the kind table a return.
--- Assumes nothing.
 use mathlib.Core.Path.{_≡_, sym, _∙_}
 use mathlib.Core.Bool.{true}
 use native.Mathlib.Omega.{arith}
@@ -10,18 +9,13 @@ use Rattle.rules.proofs.Entries.{pair-late, pair-kind, pair-below, pair
 use Rattle.rules.proofs.pair.Statement.{statement}
 use Rattle.rules.proofs.pair.Tie as tie
 
-earlier-requires : tie.Need-earlier-requires
-earlier-requires c κs = search needs
-
 returns : tie.Need-returns
 returns c = pair-late _ _ _ _ (sym (c .before .earlier .ensures) ∙ not-true _ (c .if1 .taken))
 
 -- past the test both parts are earlier entries
-passed : (c : tie.Else1) → let a = c .before .before .args in areEarlier (a .index) (a .left) (a .right) ≡ true
+passed : (c : tie.Else1)
+    → let a = c .before .before .args in areEarlier (a .index) (a .left) (a .right) ≡ true
 passed c = sym (c .before .earlier .ensures) ∙ not-false _ (c .if1 .left)
-
-joint-requires : tie.Need-joint-requires
-joint-requires c κs = search needs
 
 returns-2 : tie.Need-returns-2
 returns-2 c =
@@ -34,4 +28,5 @@ returns-4 : tie.Need-returns-4
 returns-4 c = pair-past _ _ _ _ (passed (c .before .before)) (omega arith)
 
 pub pair-spec : {M : Type 1} → statement M
-pair-spec = tie.close (tie.spec earlier-requires returns joint-requires returns-2 returns-3 returns-4)
+pair-spec =
+    tie.close (tie.spec (λ c κs. search needs) returns (λ c κs. search needs) returns-2 returns-3 returns-4)

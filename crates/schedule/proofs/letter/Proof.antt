@@ -1,5 +1,5 @@
--- `schedule::letter` meets its contract: it returns the first letter of what the view shows, and 0 where the view is empty.
--- Assumes nothing.
+-- `schedule::letter` meets its contract: it returns the first letter of what the view shows,
+-- and 0 where the view is empty.
 use mathlib.Core.Path.{sym, _∙_}
 use native.Mathlib.Omega.{arith}
 use borrow.Author.Needs.{needs}
@@ -9,17 +9,13 @@ use Rattle.schedule.proofs.Letters.{letter-first}
 use Rattle.schedule.proofs.letter.Statement.{statement}
 use Rattle.schedule.proofs.letter.Tie as tie
 
-view-requires : tie.Need-view-requires
-view-requires c κs = search needs
-
 returns : tie.Need-returns
-returns c = sym (List·getD-eq-default (now (c .before .view .result)) 0 (omega arith)) ∙ letter-first _ _ _ _ (c .before .view .ensures)
-
-shared-slice-read-result : tie.Need-shared-slice-read-result
-shared-slice-read-result c = search needs
+returns c =
+    sym (List·getD-eq-default (now (c .before .view .result)) 0 (omega arith))
+    ∙ letter-first _ _ _ _ (c .before .view .ensures)
 
 returns-2 : tie.Need-returns-2
 returns-2 c = letter-first _ _ _ _ (c .before .before .view .ensures)
 
 pub letter-spec : {M : Type 1} → statement M
-letter-spec = tie.close (tie.spec view-requires returns shared-slice-read-result returns-2)
+letter-spec = tie.close (tie.spec (λ c κs. search needs) returns (λ c. search needs) returns-2)

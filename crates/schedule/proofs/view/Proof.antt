@@ -1,5 +1,5 @@
--- `schedule::view` meets its contract: each return is the rest of one list, and the test that led there says of which.
--- Assumes nothing.
+-- `schedule::view` meets its contract: each return is the rest of one list,
+-- and the test that led there says of which.
 use mathlib.Core.Path.{refl}
 use Prim.Native.Nat.{_-_, _%_, _<_}
 use native.Mathlib.Nat.{mod-lt, pos-of-ne-zero}
@@ -11,34 +11,17 @@ use Rattle.schedule.proofs.Letters.{rest-of, whole, view-opening, view-
 use Rattle.schedule.proofs.view.Statement.{statement}
 use Rattle.schedule.proofs.view.Tie as tie
 
-mul-result : tie.Need-mul-result
-mul-result c = search needs
-
-sub-result : tie.Need-sub-result
-sub-result c = search needs
-
-part-result-start : tie.Need-part-result-start
-part-result-start c = search needs
-
-part-result-end : tie.Need-part-result-end
-part-result-end c = search needs
-
 returns : tie.Need-returns
 returns c = view-opening _ _ _ _ (c .before .if1 .taken) (rest-of _ _ _ refl refl refl)
 
 returns-2 : tie.Need-returns-2
 returns-2 c = view-nothing _ _ _ _ (c .before .if1 .left) (c .if2 .taken) (whole _)
 
-sub-from : tie.Need-sub-from
-sub-from c = search needs
-
-rem-from : tie.Need-rem-from
-rem-from c = search needs
-
 -- past the prefix, with letters in the loop, the letter in force lies within the loop
 within : (c : tie.Else2)
-    → (c .before .before .args .at - length (now (c .before .before .args .prefix))) % length (now (c .before .before .args .again))
-    < length (now (c .before .before .args .again))
+    → (c .before .before .args .position - length (now (c .before .before .args .prefix)))
+    % length (now (c .before .before .args .looped))
+    < length (now (c .before .before .args .looped))
 within c = mod-lt _ (pos-of-ne-zero (c .if2 .left))
 
 mul-result-2 : tie.Need-mul-result-2
@@ -50,27 +33,25 @@ sub-result-2 c = omega (arith, within c)
 part-result-start-2 : tie.Need-part-result-start-2
 part-result-start-2 c = omega (arith, within c)
 
-part-result-end-2 : tie.Need-part-result-end-2
-part-result-end-2 c = search needs
-
 returns-3 : tie.Need-returns-3
 returns-3 c =
-    view-looping _ _ _ _ (c .before .before .if1 .left) (pos-of-ne-zero (c .before .if2 .left)) (rest-of _ _ _ refl refl refl)
+    view-looping _ _ _ _ (c .before .before .if1 .left) (pos-of-ne-zero (c .before .if2 .left))
+    (rest-of _ _ _ refl refl refl)
 
 pub view-spec : {M : Type 1} → statement M
 view-spec =
     tie.close
     (tie.spec
-    mul-result
-    sub-result
-    part-result-start
-    part-result-end
+    (λ c. search needs)
+    (λ c. search needs)
+    (λ c. search needs)
+    (λ c. search needs)
     returns
     returns-2
-    sub-from
-    rem-from
+    (λ c. search needs)
+    (λ c. search needs)
     mul-result-2
     sub-result-2
     part-result-start-2
-    part-result-end-2
+    (λ c. search needs)
     returns-3)

@@ -1,5 +1,4 @@
 -- `search::fill_row` meets its contract: each kind's row is what the filling asks for.
--- Assumes nothing.
 use Prim.Native.Nat.{ℕ, _+_, _-_, _*_}
 use mathlib.Core.Path.{_≡_, refl, sym, _∙_}
 use native.Mathlib.Omega.{arith}
@@ -12,10 +11,9 @@ use Rattle.rules.specs.declared.Entry.the-variants.{One, Two}
 use Rattle.rules.specs.declared.Binary.{Binary}
 use Rattle.rules.specs.declared.Binary.the-variants.{Or, And, Since, Until}
 use Rattle.rules.proofs.Entries.{one-is, two-is}
-use Rattle.search.specs.Rows.{Ready}
-use Rattle.search.proofs.Driven.{Measured, height-small, lap-small, parts-of}
-use Rattle.search.proofs.Driven.{atom-ready, row-ready, start-small, until-fits}
-use Rattle.search.proofs.Driven.{atom-driven, broken-driven, not-driven}
+use Rattle.rows.specs.inside.Rows.{RowReady}
+use Rattle.search.proofs.Driven.{Measured, height-small, lap-small, parts-of, atom-ready, row-ready}
+use Rattle.search.proofs.Driven.{start-small, until-fits, atom-driven, broken-driven, not-driven}
 use Rattle.search.proofs.Driven.{or-driven, and-driven, since-driven, until-driven}
 use Rattle.search.proofs.fill_row.Statement.{statement}
 use Rattle.search.proofs.fill_row.Tie as tie
@@ -26,13 +24,13 @@ module _ (k : tie.After-height) where
   begun = k .before .before .before .before .before
 
   measured : let a = begun .args in
-      Measured (now (a .prefix)) (now (a .again)) (now (a .words)) (a .row) (length (now (a .work))) (a .reach)
-      (k .height .result)
+      Measured (now (a .prefix)) (now (a .looped)) (now (a .table)) (a .row) (length (now (a .work)))
+      (a .reach) (k .height .result)
   measured = record { limits = begun .pre .0; high = k .height .ensures }
 
 -- once the entry is read, and found to be x
 read : (k : tie.After-entry-at) {x : Entry} → k .entry-at .result ≡ x
-    → let a = begun (k .before) .args in entryAt (now (a .words)) (a .row) ≡ x
+    → let a = begun (k .before) .args in entryAt (now (a .table)) (a .row) ≡ x
 read k is = sym (k .entry-at .ensures) ∙ is
 
 -- an entry of two parts
@@ -47,18 +45,15 @@ module _ (k : tie.After-op) where
   right = k .op .given .0 .1 .1 .0
 
   two : (op : Binary) → k .op .given .0 .0 ≡ op
-      → let a = begun height-told .args in entryAt (now (a .words)) (a .row) ≡ Two op left right
+      → let a = begun height-told .args in entryAt (now (a .table)) (a .row) ≡ Two op left right
   two op is = two-is (read (k .before .before) (k .op .given .1)) is
 
   ready : let a = begun height-told .args in
-      Ready (a .row) left right (a .reach + length (now (a .again)) * (5 - height-told .height .result))
+      RowReady (a .row) left right (a .reach + length (now (a .looped)) * (5 - height-told .height .result))
       (length (now (a .work)))
   ready =
       let parts = parts-of (measured height-told) (Two _ left right) (two _ refl) in
       row-ready (measured height-told) left right (parts .0) (parts .1)
-
-height-requires : tie.Need-height-requires
-height-requires c κs = search needs
 
 sub-cols : tie.Need-sub-cols
 sub-cols c = height-small (measured c)
@@ -69,17 +64,8 @@ mul-cols c = omega (arith, lap-small (measured c))
 add-cols : tie.Need-add-cols
 add-cols c = omega (arith, lap-small (measured c))
 
-entry-at-requires : tie.Need-entry-at-requires
-entry-at-requires c κs = search needs
-
-enum-known-a : tie.Need-enum-known-a
-enum-known-a c = search needs
-
 atom-row-requires : tie.Need-atom-row-requires
 atom-row-requires c κs = atom-ready (measured (c .before .before .before .before .before))
-
-enum-known-l : tie.Need-enum-known-l
-enum-known-l c = search needs
 
 plain-row-requires : tie.Need-plain-row-requires
 plain-row-requires c κs =
@@ -87,32 +73,14 @@ plain-row-requires c κs =
     let part = parts-of (measured (k .before)) (One _ _) (read k (c .before .before .l .given .1)) in
     row-ready (measured (k .before)) _ _ part part
 
-enum-known-op : tie.Need-enum-known-op
-enum-known-op c = search needs
-
-enum-told : tie.Need-enum-told
-enum-told c = search needs
-
 plain-row-requires-2 : tie.Need-plain-row-requires-2
 plain-row-requires-2 c κs = ready (c .before .before .before .before)
-
-enum-told-2 : tie.Need-enum-told-2
-enum-told-2 c = search needs
 
 plain-row-requires-3 : tie.Need-plain-row-requires-3
 plain-row-requires-3 c κs = ready (c .before .before .before .before)
 
-enum-told-3 : tie.Need-enum-told-3
-enum-told-3 c = search needs
-
 since-row-requires : tie.Need-since-row-requires
 since-row-requires c κs = ready (c .before .before .before .before)
-
-enum-told-4 : tie.Need-enum-told-4
-enum-told-4 c = search needs
-
-height-requires-2 : tie.Need-height-requires-2
-height-requires-2 c κs = search needs
 
 -- an until, whose right side has its height into the past
 module _ (c : tie.After-height2) where
@@ -120,7 +88,7 @@ module _ (c : tie.After-height2) where
   until-told = c .before .before .before .before
 
   is-until : let a = begun (height-told until-told) .args in
-      entryAt (now (a .words)) (a .row) ≡ Two Until (left until-told) (right until-told)
+      entryAt (now (a .table)) (a .row) ≡ Two Until (left until-told) (right until-told)
   is-until = two until-told Until (c .before .enum-told4 .given .1)
 
 mul-start : tie.Need-mul-start
@@ -138,14 +106,8 @@ until-row-requires c κs =
     let told = c .before in
     until-fits (measured (height-told (until-told told))) _ _ (is-until told) _ (told .height2 .ensures)
 
-enum-told-5 : tie.Need-enum-told-5
-enum-told-5 c = search needs
-
 atom-row-requires-2 : tie.Need-atom-row-requires-2
 atom-row-requires-2 c κs = atom-ready (measured (c .before .before .before .before))
-
-same-length : tie.Need-same-length
-same-length c = search needs
 
 returns : tie.Need-returns
 returns c =
@@ -154,18 +116,12 @@ returns c =
     atom-driven (measured (k .before)) refl (begun (k .before) .pre .1) _
     (read k (row .before .before .before .a .given .1)) (row .atom-row .ensures)
 
-same-length-2 : tie.Need-same-length-2
-same-length-2 c = search needs
-
 returns-2 : tie.Need-returns-2
 returns-2 c =
     let row = c .before .before in
     let k = row .before .before .before .before .before in
     not-driven (measured (k .before)) refl (begun (k .before) .pre .1) _
     (one-is (read k (row .before .before .before .l .given .1))) (row .plain-row .ensures)
-
-same-length-3 : tie.Need-same-length-3
-same-length-3 c = search needs
 
 returns-3 : tie.Need-returns-3
 returns-3 c =
@@ -174,18 +130,12 @@ returns-3 c =
     or-driven (measured (height-told k)) refl (begun (height-told k) .pre .1) _ _
     (two k Or (row .before .before .enum-told .given .1)) (row .plain-row2 .ensures)
 
-same-length-4 : tie.Need-same-length-4
-same-length-4 c = search needs
-
 returns-4 : tie.Need-returns-4
 returns-4 c =
     let row = c .before .before in
     let k = row .before .before .before .before .before in
     and-driven (measured (height-told k)) refl (begun (height-told k) .pre .1) _ _
     (two k And (row .before .before .enum-told2 .given .1)) (row .plain-row3 .ensures)
-
-same-length-5 : tie.Need-same-length-5
-same-length-5 c = search needs
 
 returns-5 : tie.Need-returns-5
 returns-5 c =
@@ -194,9 +144,6 @@ returns-5 c =
     since-driven (measured (height-told k)) refl (begun (height-told k) .pre .1) _ _
     (two k Since (row .before .before .enum-told3 .given .1)) (row .since-row .ensures)
 
-same-length-6 : tie.Need-same-length-6
-same-length-6 c = search needs
-
 returns-6 : tie.Need-returns-6
 returns-6 c =
     let row = c .before .before in
@@ -204,9 +151,6 @@ returns-6 c =
     let k = height-told (until-told told) in
     until-driven (measured k) refl (begun k .pre .1) _ _ _ (told .height2 .ensures) (is-until told)
     (row .until-row .ensures)
-
-same-length-7 : tie.Need-same-length-7
-same-length-7 c = search needs
 
 returns-7 : tie.Need-returns-7
 returns-7 c =
@@ -219,40 +163,40 @@ pub fill-row-spec : {M : Type 1} → statement M
 fill-row-spec =
     tie.close
     (tie.spec
-    height-requires
+    (λ c κs. search needs)
     sub-cols
     mul-cols
     add-cols
-    entry-at-requires
-    enum-known-a
+    (λ c κs. search needs)
+    (λ c. search needs)
     atom-row-requires
-    enum-known-l
+    (λ c. search needs)
     plain-row-requires
-    enum-known-op
-    enum-told
+    (λ c. search needs)
+    (λ c. search needs)
     plain-row-requires-2
-    enum-told-2
+    (λ c. search needs)
     plain-row-requires-3
-    enum-told-3
+    (λ c. search needs)
     since-row-requires
-    enum-told-4
-    height-requires-2
+    (λ c. search needs)
+    (λ c κs. search needs)
     mul-start
     add-start
     until-row-requires
-    enum-told-5
+    (λ c. search needs)
     atom-row-requires-2
-    same-length
+    (λ c. search needs)
     returns
-    same-length-2
+    (λ c. search needs)
     returns-2
-    same-length-3
+    (λ c. search needs)
     returns-3
-    same-length-4
+    (λ c. search needs)
     returns-4
-    same-length-5
+    (λ c. search needs)
     returns-5
-    same-length-6
+    (λ c. search needs)
     returns-6
-    same-length-7
+    (λ c. search needs)
     returns-7)

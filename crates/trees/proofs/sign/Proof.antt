@@ -1,23 +1,13 @@
 -- `trees::sign` meets its contract: the constant array read at a rule is the table's column there.
--- Assumes nothing.
 use mathlib.Core.Path.{refl}
 use borrow.Author.Needs.{needs}
-use Rattle.trees.specs.Table.{signs}
+use Rattle.trees.specs.Verdicts.{signs}
 use Rattle.trees.proofs.Table.{small-at}
 use Rattle.trees.proofs.sign.Statement.{statement}
 use Rattle.trees.proofs.sign.Tie as tie
 
-sub-result : tie.Need-sub-result
-sub-result c = search needs
-
-array-read-result : tie.Need-array-read-result
-array-read-result c = search needs
-
 cast-result : tie.Need-cast-result
 cast-result c = let small = small-at signs refl _ (c .pre .0) (c .pre .1) in search needs
 
-returns : tie.Need-returns
-returns c = search needs
-
 pub sign-spec : {M : Type 1} → statement M
-sign-spec = tie.close (tie.spec sub-result array-read-result cast-result returns)
+sign-spec = tie.close (tie.spec (λ c. search needs) (λ c. search needs) cast-result (λ c. search needs))

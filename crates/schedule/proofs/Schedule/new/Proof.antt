@@ -1,5 +1,4 @@
 -- `schedule::Schedule::new` meets its contract: a law a return.
--- Assumes nothing.
 use native.Mathlib.Omega.{arith}
 use Rattle.schedule.proofs.Lengths.{refusal-1, refusal-2, makes-ready}
 use Rattle.schedule.proofs.Schedule.new.Statement.{statement}

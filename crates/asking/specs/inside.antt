@@ -1,0 +1,2 @@
+pub mod Gates
+pub mod Unsized

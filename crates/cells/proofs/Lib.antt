@@ -1,0 +1,4 @@
+pub mod Cells
+pub mod Meant
+pub mod MeantPlain
+pub mod Sliding

@@ -1,0 +1,4 @@
+pub mod Determined
+pub mod Judging
+pub mod Limits
+pub mod Reading

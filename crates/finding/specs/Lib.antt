@@ -1,0 +1,4 @@
+pub mod Found
+pub mod Told
+pub mod Worked
+pub mod inside

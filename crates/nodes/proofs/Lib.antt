@@ -1,0 +1,10 @@
+pub mod Claims
+pub mod Determined
+pub mod Judged
+pub mod JudgedAtoms
+pub mod JudgedLists
+pub mod JudgedNodes
+pub mod JudgedPlain
+pub mod Parts
+pub mod Plans
+pub mod Words

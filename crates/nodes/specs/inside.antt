@@ -1,0 +1,4 @@
+pub mod Demands
+pub mod Fits
+pub mod Forms
+pub mod Tested

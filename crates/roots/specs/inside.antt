@@ -1,0 +1,3 @@
+pub mod Rooted
+pub mod Roots
+pub mod Scans

@@ -1,0 +1,13 @@
+pub mod Cols
+pub mod Costs
+pub mod Frames
+pub mod LeastForests
+pub mod Level
+pub mod Prices
+pub mod Repeating
+pub mod RunCosts
+pub mod SinceCosts
+pub mod Threshold
+pub mod Truth
+pub mod UntilCosts
+pub mod Words
