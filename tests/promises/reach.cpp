@@ -25,7 +25,7 @@ using names = std::vector<std::string>;
 // The entry points: crate and public function.
 const names LIBRARY = {
     "chickvessel:chickvessel_check", "chickvessel:chickvessel_truth", "chickvessel:chickvessel_find",
-    "chickvessel:chickvessel_write", "chickvessel:write", "checking:check", "finding:truth", "finding:find",
+    "chickvessel:chickvessel_write", "wording:write", "checking:check", "finding:truth", "finding:find",
     "schedule:Schedule::new", "schedule:view", "schedule:letter", "schedule:bit",
 };
 const names TEXT_PROGRAM = {"explain_text:explain", "explain_text:chickvessel_explain"};

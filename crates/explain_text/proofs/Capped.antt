@@ -13,9 +13,9 @@ use lib.Seq.{take-all}
 use Rattle.schedule.specs.Limits.{maxLetters, maxEntries}
 use Rattle.schedule.specs.Figures.{Figures}
 use Rattle.asking.specs.Questions.{Question, question}
-use Rattle.chickvessel.specs.Wrote.{Wrote}
+use Rattle.wording.specs.Wrote.{Wrote}
 use Rattle.asking.proofs.Accepting.{count-many}
-use Rattle.chickvessel.proofs.Alike.{Alike, tables-alike, letters-alike, alike-wrote}
+use Rattle.wording.proofs.Alike.{Alike, tables-alike, letters-alike, alike-wrote}
 
 -- a loop that is cut is empty exactly if it was
 some-kept : (loop : List ℕ) → ltb 0 (length (take 49 loop)) ≡ ltb 0 (length loop)

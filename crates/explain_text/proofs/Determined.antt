@@ -6,8 +6,8 @@ use Prim.Native.Nat.{ℕ, _+_}
 use native.Mathlib.Omega.{arith}
 use lib.ListN.{length, take}
 use Rattle.asking.specs.Questions.{question}
-use Rattle.chickvessel.specs.Wrote.{Wrote}
-use Rattle.chickvessel.proofs.DeterminedWrote.{write-one}
+use Rattle.wording.specs.Wrote.{Wrote}
+use Rattle.wording.proofs.DeterminedWrote.{write-one}
 use Rattle.schedule.specs.Buffers.{put}
 use Rattle.questions.proofs.Wholes.{whole-one, whole-not-wrong, wrong-one}
 use Rattle.rendering.specs.Texts.{Rendered, WrongText}

@@ -10,17 +10,18 @@ use Rattle.schedule.specs.Figures.{Figures}
 use Rattle.asking.specs.Answers.{figuresOf}
 use Rattle.asking.specs.Questions.{Question, question}
 use Rattle.schedule.specs.Limits.{maxWords}
-use Rattle.chickvessel.specs.Wrote.{Written, unwritten, tooShort, written, Wrote}
+use Rattle.wording.specs.Wrote.{Written, unwritten, tooShort, written, Wrote}
 use Rattle.asking.specs.declared.Outcome.{Outcome}
 use Rattle.asking.specs.declared.Outcome.the-variants.{Refused, NotValid, Judged}
 use Rattle.finding.proofs.Working.{worked-answer, worked-passed}
-use Rattle.questions.specs.Texts.{askKey, lineOf, Said, Line, prefixed, looped, entered, RightLines, begun}
-use Rattle.questions.specs.Texts.{further, WrongLine, stuck, goes-on}
+use Rattle.questions.specs.Texts.{askKey, Said, Line, prefixed, looped, entered, RightLines, begun, further}
+use Rattle.questions.specs.Texts.{WrongLine, stuck, goes-on}
+use Rattle.lists.specs.Lines.{lineOf}
 use Rattle.questions.specs.inside.Questions.{Understood}
 use Rattle.questions.specs.declared.TextRead.{TextRead}
 use Rattle.rendering.specs.Texts.{Rendered, WrongText, LongText}
-use Rattle.rendering.specs.Placed.{Placed}
-use Rattle.rendering.proofs.Placing.{placed-as}
+use Rattle.printing.specs.Placed.{Placed}
+use Rattle.printing.proofs.Placing.{placed-as}
 use Rattle.explain_text.specs.Explained.{maxText, Output}
 use Rattle.explain_text.specs.Explained
 use Rattle.explain_text.proofs.Capped.{capped-wrote}

@@ -6,10 +6,10 @@ use mathlib.Core.List.{List}
 use lib.ListN.{length, take}
 use Rattle.schedule.specs.Figures.{Figures}
 use Rattle.asking.specs.Questions.{question}
-use Rattle.chickvessel.specs.Wrote.{Wrote}
+use Rattle.wording.specs.Wrote.{Wrote}
 use Rattle.questions.specs.Texts.{Said, Whole, WrongLine}
 use Rattle.rendering.specs.Texts.{Rendered, WrongText, LongText}
-use Rattle.rendering.specs.Placed.{Placed}
+use Rattle.printing.specs.Placed.{Placed}
 
 -- The most bytes of a text.
 abbrev pub maxText : ℕ

@@ -45,7 +45,7 @@ pub fn explain(
     let in_prefix = smaller(question.prefix, KEPT_LETTERS);
     let in_loop = smaller(question.looped, KEPT_LETTERS);
     let entries = smaller(question.entries, KEPT_ENTRIES);
-    let outcome = chickvessel::write(
+    let outcome = wording::write(
         &prefix[..in_prefix],
         &looped[..in_loop],
         &table[..entries],

@@ -1,6 +1,4 @@
 pub mod DeterminedFound
 pub mod DeterminedTold
-pub mod Limits
-pub mod Looking
+pub mod Telling
 pub mod Working
-pub mod Reading

@@ -22,7 +22,7 @@ use Rattle.trees.specs.declared.Verdict.{Verdict}
 use Rattle.trees.specs.declared.Verdict.the-variants.{Holds, Violated}
 use Rattle.nodes.specs.declared.Demands.{Demands}
 use Rattle.trees.proofs.Table.{peel}
-use Rattle.nodes.proofs.Words.{within-in}
+use Rattle.forms.proofs.Words.{within-in}
 use Rattle.nodes.proofs.Parts.{byKind, formula-kind, left-earlier, right-earlier}
 use Rattle.trees.proofs.Needs.{formulaRight, rule-numbers}
 use Rattle.nodes.proofs.Judged.{fits-says, rule-fits, at-kind, tested-by}

@@ -13,15 +13,15 @@ use Rattle.rules.specs.declared.Entry.{Entry}
 use Rattle.trees.specs.Nodes.{Node, node, nodeOf}
 use Rattle.trees.specs.Rules.{Claim, claim, Rule}
 use Rattle.trees.specs.Frames.{scheduleFrame}
-use Rattle.nodes.specs.inside.Forms.{formFrom, formOf}
+use Rattle.forms.specs.inside.Forms.{formFrom, formOf}
 use Rattle.nodes.specs.inside.Fits.{leftOf, rightOf, fitsOf, atomFits, listFits}
 use Rattle.nodes.specs.inside.Demands.{plainDemands, countDemands, Countable, demandsOf, Asks}
 use Rattle.nodes.specs.inside.Tested.{Tested, unfit}
 use Rattle.trees.specs.declared.Verdict.{Verdict}
-use Rattle.nodes.specs.declared.Form.{Form}
-use Rattle.nodes.specs.declared.Form.the-variants.{AtomForm, PlainForm, CountedForm, Malformed}
+use Rattle.forms.specs.declared.Form.{Form}
+use Rattle.forms.specs.declared.Form.the-variants.{AtomForm, PlainForm, CountedForm, Malformed}
 use Rattle.nodes.specs.declared.Demands.{Demands}
-use Rattle.nodes.proofs.Words.{word-says, word-atom, word-plain, word-counted}
+use Rattle.forms.proofs.Words.{word-says, word-atom, word-plain, word-counted}
 use Rattle.nodes.proofs.Plans.{demands-plain, demands-count}
 use Rattle.trees.proofs.Needs.{rule-numbers}
 use Rattle.nodes.proofs.Judged.{rule-fits}

@@ -7,4 +7,3 @@ pub mod JudgedNodes
 pub mod JudgedPlain
 pub mod Parts
 pub mod Plans
-pub mod Words

@@ -13,7 +13,7 @@ use Rattle.rules.specs.declared.Entry.{Entry}
 use Rattle.trees.specs.Frames.{windowCount}
 use Rattle.trees.specs.Verdicts.{ruleSign, signOf}
 use Rattle.trees.specs.inside.Table.{ruleKind, ruleFixed}
-use Rattle.nodes.specs.inside.Forms.{within}
+use Rattle.forms.specs.inside.Forms.{within}
 use Rattle.nodes.specs.inside.Fits.{kindOf, leftOf, rightOf, fitsOf, atomFits, countFits, windowOf}
 use Rattle.nodes.specs.inside.Fits.{listFits}
 use Rattle.nodes.specs.inside.Demands.{firstOf, verdictOf, plainDemands, listDemands, countDemands}

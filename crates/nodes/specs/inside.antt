@@ -1,4 +1,3 @@
 pub mod Demands
 pub mod Fits
-pub mod Forms
 pub mod Tested

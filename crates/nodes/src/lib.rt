@@ -1,4 +1,6 @@
 // The test of one node: its form, then kind, sign, count, position and letter.
+use forms::Form;
+use forms::form_of;
 use heights::larger;
 use rules::Binary;
 use rules::Entry;
@@ -10,7 +12,7 @@ use trees::kind;
 use trees::sign;
 use trees::sign_of;
 ghost use mathlib.Core.Path.{_≡_};
-ghost use Prim.Native.Nat.{_+_, _/_, _^_, _≤_, _<_};
+ghost use Prim.Native.Nat.{_+_, _^_, _≤_, _<_};
 ghost use lib.ListN.{length};
 ghost use Rattle.schedule.specs.Limits.{maxLetters, maxEntries};
 ghost use Rattle.rules.specs.Tables.{entryAt, formulaOf};
@@ -19,18 +21,10 @@ ghost use Rattle.rules.specs.declared.Side.the-variants.{Past};
 ghost use Rattle.trees.specs.Nodes.{nodeOf};
 ghost use Rattle.trees.specs.Rules.{claim};
 ghost use Rattle.trees.specs.Frames.{scheduleFrame};
-ghost use Rattle.nodes.specs.inside.Forms.{within, formFrom, formOf};
+ghost use Rattle.forms.specs.inside.Forms.{within};
 ghost use Rattle.nodes.specs.inside.Fits.{kindOf, leftOf, rightOf, fitsOf, atomFits, countFits};
 ghost use Rattle.nodes.specs.inside.Fits.{windowOf, Counts, listFits};
 ghost use Rattle.nodes.specs.inside.Tested.{Within, Tested};
-
-// A word by its rule: what its fields say, or that its form fits no rule.
-pub enum Form {
-    AtomForm(usize, usize, usize),
-    PlainForm(usize),
-    CountedForm(usize, usize),
-    Malformed,
-}
 
 // What a node's parts have to prove, all of one verdict: a fixed part or none,
 // and then the members of a list at rising positions.
@@ -91,44 +85,6 @@ fn within(low: usize, high: usize, n: usize) -> bool
     ensures { λ r. ⌜ r ≡ within low high n ⌝ }
 {
     low <= n && n <= high
-}
-
-// Form.
-fn plain(rule: usize, atom: usize, number: usize) -> Form
-    requires { ⌜ (3 ≤ rule) × (rule ≤ 10) ⌝ }
-    ensures { λ r. ⌜ r ≡ formFrom rule atom number ⌝ }
-{
-    if atom == 0 {
-        if number == 0 {
-            return Form::PlainForm(rule);
-        }
-    }
-    Form::Malformed
-}
-
-fn counted(rule: usize, atom: usize, number: usize) -> Form
-    requires { ⌜ (11 ≤ rule) × (rule ≤ 16) ⌝ }
-    ensures { λ r. ⌜ r ≡ formFrom rule atom number ⌝ }
-{
-    if atom == 0 {
-        return Form::CountedForm(rule, number);
-    }
-    Form::Malformed
-}
-
-// A word, by cases on its rule number.
-fn form_of(word: u32) -> Form
-    ensures { λ r. ⌜ r ≡ formOf word ⌝ }
-{
-    let rule = (word / 16777216) as usize;
-    let atom = (word / 65536 % 256) as usize;
-    let number = (word % 65536) as usize;
-    match rule {
-        1..=2 => Form::AtomForm(rule, atom, number),
-        3..=10 => plain(rule, atom, number),
-        11..=16 => counted(rule, atom, number),
-        _ => Form::Malformed,
-    }
 }
 
 // Kind, then sign.

@@ -7,16 +7,18 @@ use native.Mathlib.Nat.{suc-inj}
 use native.Mathlib.Omega.{arith}
 use lib.ListN.{take, length, drop, length-append, drop-of-length-le}
 use lib.Seq.{drop-cons}
-use Rattle.questions.specs.Texts.{prefixKey, loopKey, entryKey, askKey, lineOf, Commas, Letters, Said}
-use Rattle.questions.specs.Texts.{said, Line, prefixed, looped, entered, RightLines, begun, further}
-use Rattle.questions.specs.Texts.{Whole, WrongLine, stuck, goes-on}
+use Rattle.questions.specs.Texts.{prefixKey, loopKey, entryKey, askKey, Said, said, Line, prefixed}
+use Rattle.questions.specs.Texts.{looped, entered, RightLines, begun, further, Whole, WrongLine, stuck}
+use Rattle.questions.specs.Texts.{goes-on}
+use Rattle.lists.specs.Lines.{lineOf, Commas, Letters}
 use Rattle.rules.specs.Words.{entryWord}
-use Rattle.questions.specs.inside.Lists.{BytesFor, Ended, Some, Worded, Listed, EntryFields, AskFields}
-use Rattle.questions.specs.inside.Lists.{AskRead, EntryLines, none, more, AllEntries}
+use Rattle.lists.specs.inside.Lists.{BytesFor, Ended, Some, Worded, Listed}
+use Rattle.questions.specs.inside.LinesRead.{EntryFields, AskFields, AskRead, EntryLines, none, more}
+use Rattle.questions.specs.inside.LinesRead.{AllEntries}
 use Rattle.questions.specs.inside.Questions.{QuestionRead}
 use Rattle.questions.specs.declared.Entries.{Entries}
 use Rattle.questions.specs.declared.TextRead.{TextRead}
-use Rattle.questions.proofs.Wording.{ended-line, line-ended}
+use Rattle.lists.proofs.Keyed.{ended-line, line-ended}
 use Rattle.questions.proofs.Rights.{right-one, next-line}
 use Rattle.questions.proofs.Wholes.{whole-split}
 use Rattle.schedule.specs.Buffers.{put}

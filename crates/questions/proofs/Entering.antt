@@ -5,14 +5,16 @@ use mathlib.Core.List.{List, [], _∷_, _++_, append-assoc}
 use Prim.Native.Nat.{ℕ, _+_, _*_, _≤_}
 use native.Mathlib.Omega.{arith}
 use lib.ListN.{take, length, getD, drop, set, length-append}
-use Rattle.questions.specs.Texts.{entryKey, lineOf, Commas, last, more}
+use Rattle.questions.specs.Texts.{entryKey}
+use Rattle.lists.specs.Lines.{lineOf, Commas, last, more}
 use Rattle.rules.specs.Words.{entryWord}
-use Rattle.questions.specs.inside.Lists.{Ended, Some, Listed, EntryFields, AskFields, EntryRead, Enters}
-use Rattle.questions.specs.inside.Lists.{AskFound, EntryLines, none, more as another, AllEntries}
+use Rattle.lists.specs.inside.Lists.{Ended, Some, Listed}
+use Rattle.questions.specs.inside.LinesRead.{EntryFields, AskFields, EntryRead, Enters, AskFound}
+use Rattle.questions.specs.inside.LinesRead.{EntryLines, none, more as another, AllEntries}
 use Rattle.questions.specs.declared.Entered.the-variants.{NoEntry, EntryAt}
 use Rattle.questions.specs.declared.AskedLine.the-variants.{NotAsked, AskedAt}
-use Rattle.questions.proofs.Keeping.{kept-none, kept-more, kept-length}
-use Rattle.questions.proofs.Wording.{plain-commas, ended-one, ended-line}
+use Rattle.lists.proofs.Keeping.{kept-none, kept-more, kept-length}
+use Rattle.lists.proofs.Keyed.{plain-commas, ended-one, ended-line}
 use Rattle.schedule.specs.Buffers.{put}
 
 abbrev Bounded : ℕ → List ℕ → Type 0

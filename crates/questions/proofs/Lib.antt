@@ -1,9 +1,3 @@
-pub mod Splits
-pub mod Numbers
-pub mod Keeping
-pub mod Keywords
-pub mod Going
-pub mod Wording
 pub mod Entering
 pub mod Rights
 pub mod Wholes

@@ -7,10 +7,11 @@ use native.Mathlib.Nat.{suc-inj, suc-ne-zero}
 use native.Mathlib.Decide.{decLt}
 use native.Mathlib.Omega.{arith}
 use lib.ListN.{getD}
-use Rattle.questions.specs.Texts.{prefixKey, loopKey, entryKey, askKey, lineOf, Said, said, Line}
-use Rattle.questions.specs.Texts.{prefixed, looped, entered, RightLines, begun, further, BeginsRight}
+use Rattle.questions.specs.Texts.{prefixKey, loopKey, entryKey, askKey, Said, said, Line, prefixed}
+use Rattle.questions.specs.Texts.{looped, entered, RightLines, begun, further, BeginsRight}
+use Rattle.lists.specs.Lines.{lineOf}
 use Rattle.rules.specs.Words.{entryWord}
-use Rattle.questions.proofs.Wording.{plain-commas, plain-letters, line-one}
+use Rattle.lists.proofs.Keyed.{plain-commas, plain-letters, line-one}
 
 -- Right lines that begin the same bytes are the same.
 pub record SameLines (bs : List ℕ) (s : Said) (rest cs : List ℕ) (t : Said) (others : List ℕ) : Type 0 where

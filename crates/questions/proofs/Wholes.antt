@@ -6,9 +6,10 @@ use Prim.Native.Nat.{ℕ, suc, _+_, _<_}
 use native.Mathlib.Decide.{decLt}
 use native.Mathlib.Omega.{arith}
 use lib.ListN.{getD}
-use Rattle.questions.specs.Texts.{askKey, lineOf, Said, RightLines, Whole, BeginsRight, BeginsWhole}
-use Rattle.questions.specs.Texts.{WrongLine, stuck, goes-on}
-use Rattle.questions.proofs.Wording.{plain-commas, line-one}
+use Rattle.questions.specs.Texts.{askKey, Said, RightLines, Whole, BeginsRight, BeginsWhole, WrongLine}
+use Rattle.questions.specs.Texts.{stuck, goes-on}
+use Rattle.lists.specs.Lines.{lineOf}
+use Rattle.lists.proofs.Keyed.{plain-commas, line-one}
 use Rattle.questions.proofs.Rights.{right-one, begins-fewer, next-line, entry-no-ask}
 
 module _ {text : List ℕ} {k : ℕ} (b : BeginsWhole text k) where

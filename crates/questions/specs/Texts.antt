@@ -1,9 +1,9 @@
 -- The text of a question: its lines and what they say, and the first wrong line.
-use Prim.Native.Nat.{ℕ, zero, suc, _+_, _*_, _≤_}
+use Prim.Native.Nat.{ℕ, zero, suc, _≤_}
 use mathlib.Core.Path.{_≡_}
 use mathlib.Core.List.{List, [], _∷_, _++_}
-use Rattle.decimals.specs.Decimals.{Decimal, comma, newline}
 use Rattle.rules.specs.Words.{entryWord}
+use Rattle.lists.specs.Lines.{Commas, Letters, lineOf}
 
 -- The bytes of `prefix=`, `loop=`, `entry=` and `ask=`.
 abbrev pub prefixKey : List ℕ
@@ -17,21 +17,6 @@ entryKey = 101 ∷ 110 ∷ 116 ∷ 114 ∷ 121 ∷ 61 ∷ []
 
 abbrev pub askKey : List ℕ
 askKey = 97 ∷ 115 ∷ 107 ∷ 61 ∷ []
-
--- Numbers of at most max, with commas between them.
-pub data Commas (max : ℕ) : List ℕ → List ℕ → Type 0 where
-  last : {ds : List ℕ} {n : ℕ} → Decimal ds n → n ≤ max → Commas max ds (n ∷ [])
-  more : {ds bs ns : List ℕ} {n : ℕ} → Decimal ds n → n ≤ max → Commas max bs ns
-      → Commas max (ds ++ comma ∷ bs) (n ∷ ns)
-
--- Letters with commas: perhaps none.
-pub data Letters : List ℕ → List ℕ → Type 0 where
-  none : Letters [] []
-  some : {bs ns : List ℕ} → Commas 4294967295 bs ns → Letters bs ns
-
--- A line is ended by a newline.
-abbrev pub lineOf : List ℕ → List ℕ → List ℕ
-lineOf word fields = word ++ (fields ++ newline ∷ [])
 
 -- What lines say: the letters of the prefix and of the loop, and the words of the entries.
 pub record Said : Type 0 where

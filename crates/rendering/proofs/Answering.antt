@@ -1,9 +1,9 @@
 -- The texts of the answers, placed line by line.
-use Prim.Native.Nat.{ℕ, _+_, _<_, _≤_}
+use Prim.Native.Nat.{ℕ, _≤_}
 use mathlib.Core.Path.{_≡_, sym, ap, subst, _∙_}
 use mathlib.Core.List.{List, _++_}
 use native.Mathlib.Omega.{arith}
-use lib.ListN.{length, take, length-append}
+use lib.ListN.{take}
 use Rattle.schedule.specs.Figures.{Figures}
 use Rattle.trees.specs.Verdicts.{signOf}
 use Rattle.trees.specs.declared.Verdict.{Verdict}
@@ -12,11 +12,12 @@ use Rattle.asking.specs.Answers.{figuresOf}
 use Rattle.asking.specs.declared.Outcome.{Outcome}
 use Rattle.asking.specs.declared.Outcome.the-variants.{Refused, NotValid, Judged}
 use Rattle.asking.proofs.Numbers.{refusal-number}
-use Rattle.rendering.specs.Texts.{refusedIs, lineIs, sizeIs, NumberLine, numberLine, NodeLines}
-use Rattle.rendering.specs.Texts.{VerdictLine, Rendered, refused, judged, WrongText, wrongText}
-use Rattle.rendering.specs.Placed.{Placed}
-use Rattle.rendering.proofs.Placing.{placed-as, placed-then}
-use Rattle.rendering.proofs.Lines.{Then, then, field-length}
+use Rattle.rendering.specs.Texts.{refusedIs, lineIs, sizeIs, NodeLines, VerdictLine, Rendered, refused}
+use Rattle.rendering.specs.Texts.{judged, WrongText, wrongText}
+use Rattle.printing.specs.Fields.{NumberLine}
+use Rattle.printing.specs.Placed.{Placed}
+use Rattle.printing.proofs.Placing.{placed-as, placed-then}
+use Rattle.printing.proofs.Fields.{Then, then}
 
 -- No outcome is the refusal of a text.
 no-text : (o : Outcome) → ¬ (figuresOf o .number ≡ 13)
@@ -33,15 +34,6 @@ verdict-is : (o : Outcome) → figuresOf o .number ≡ 0 → (1 ≤ figuresOf o 
 verdict-is (Refused x) e = absurd (omega (arith, e, refusal-number x .0))
 verdict-is (NotValid p) e = absurd (omega (arith, e))
 verdict-is (Judged v n) e = sign-is v
-
-number-line-length : {label : List ℕ} {n : ℕ} {bs : List ℕ} → NumberLine label n bs → n < 4294967296
-    → length bs ≤ length label + 11
-number-line-length {label} (numberLine {ds} d) lt =
-    omega (arith, length-append label ds, field-length 9 d (omega (arith, lt)))
-
-pub number-line-most : {label : List ℕ} {n at next : ℕ} {found left : List ℕ}
-    → Placed (NumberLine label n) at found left next → n < 4294967296 → next ≤ at + length label + 11
-number-line-most p lt = omega (arith, p .ends, number-line-length (p .such) lt)
 
 -- The figures of an outcome, as they were made, and the lines of its text.
 module _ (o : Outcome) {f : Figures} (same : f ≡ figuresOf o) (tree : List ℕ) where

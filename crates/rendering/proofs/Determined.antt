@@ -1,23 +1,12 @@
 -- An answer and its tree have one text: two results of a function that writes it coincide.
-use Prim.Native.Nat.{ℕ, _+_}
-use mathlib.Core.Path.{_≡_, refl, sym, ap, _∙_}
-use mathlib.Core.List.{List, [], _∷_, _++_}
+use Prim.Native.Nat.{ℕ}
+use mathlib.Core.Path.{_≡_, refl}
+use mathlib.Core.List.{List, _++_}
 use native.Mathlib.Omega.{arith}
-use lib.ListN.{length}
 use Rattle.schedule.specs.Figures.{Figures}
-use Rattle.schedule.specs.Buffers.{put}
-use Rattle.rendering.specs.Texts.{nodeIs, Field, field, NumberLine, numberLine, NodeLine, nodeLine}
-use Rattle.rendering.specs.Texts.{NodeLines, none, more, VerdictLine, holds, violated, Rendered}
-use Rattle.rendering.specs.Texts.{refused, judged, WrongText, wrongText, LongText}
-use Rattle.rendering.specs.Placed.{Placed}
-use Rattle.decimals.proofs.Digits.{decimal-one}
-
-field-one : {n end : ℕ} {bs cs : List ℕ} → Field n end bs → Field n end cs → bs ≡ cs
-field-one {n} {end} (field d) (field e) = ap (λ ds. ds ++ (end ∷ [])) (decimal-one d e)
-
-pub number-line-one : {label : List ℕ} {n : ℕ} {bs cs : List ℕ} → NumberLine label n bs
-    → NumberLine label n cs → bs ≡ cs
-number-line-one {label} (numberLine d) (numberLine e) = ap (λ ds. label ++ ds) (field-one d e)
+use Rattle.rendering.specs.Texts.{nodeIs, NodeLine, nodeLine, NodeLines, none, more, VerdictLine, holds}
+use Rattle.rendering.specs.Texts.{violated, Rendered, refused, judged, WrongText, wrongText, LongText}
+use Rattle.printing.proofs.Determined.{field-one, number-line-one}
 
 pub node-line-one : {w : ℕ} {bs cs : List ℕ} → NodeLine w bs → NodeLine w cs → bs ≡ cs
 node-line-one (nodeLine r a n) (nodeLine r′ a′ n′) =
@@ -57,13 +46,3 @@ wrong-text-one (wrongText r l) (wrongText r′ l′) =
 
 pub long-text-one : {bs cs : List ℕ} → LongText bs → LongText cs → bs ≡ cs
 long-text-one = number-line-one
-
--- Where the text is one, so are the bytes left and the place behind it.
-pub placed-determined : {P : List ℕ → Type 0} {at next next′ : ℕ} {found left left′ : List ℕ}
-    → ((bs cs : List ℕ) → P bs → P cs → bs ≡ cs) → Placed P at found left next → Placed P at found left′ next′
-    → (left ≡ left′) × (next ≡ next′)
-placed-determined {P} {at} {found = found} one p q =
-    let same = one (p .bytes) (q .bytes) (p .such) (q .such) in (
-      p .leaves ∙ ap (λ bs. put at bs found) same ∙ sym (q .leaves),
-      p .ends ∙ ap (λ bs. at + length bs) same ∙ sym (q .ends),
-    )

@@ -1,4 +1,3 @@
-pub mod Placing
 pub mod Lines
 pub mod Answering
 pub mod Determined

@@ -1,35 +1,18 @@
 -- The lines of a text placed part by part, and how long they get.
-use Prim.Native.Nat.{ℕ, suc, _+_, _*_, _<_, _≤_, _^_}
+use Prim.Native.Nat.{ℕ, suc, _+_, _*_, _<_, _≤_}
 use mathlib.Core.Path.{_≡_, sym, ap, subst, _∙_}
 use mathlib.Core.List.{List, [], _∷_, _++_, append-assoc, append-nil}
 use native.Mathlib.Omega.{arith}
-use lib.ListN.{length, take, getD, length-append}
+use lib.ListN.{length, take, getD}
 use lib.Seq.{take-suc}
 use Rattle.trees.specs.Nodes.{nodeOf}
 use Rattle.decimals.specs.Decimals.{comma, newline}
-use Rattle.rendering.specs.Texts.{nodeIs, verdictIs, holdsText, violatedText, Field, field, NumberLine}
-use Rattle.rendering.specs.Texts.{numberLine, NodeLine, nodeLine, NodeLines, none, more, VerdictLine}
-use Rattle.rendering.specs.Texts.{holds, violated}
-use Rattle.rendering.specs.Placed.{Placed}
-use Rattle.decimals.proofs.Digits.{decimal-length}
-use Rattle.rendering.proofs.Placing.{placed-length, placed-none, placed-as, placed-then}
-
--- one text behind another
-pub data Then (P Q : List ℕ → Type 0) : List ℕ → Type 0 where
-  then : {xs ys : List ℕ} → P xs → Q ys → Then P Q (xs ++ ys)
-
-pub number-line-placed : {label : List ℕ} {n at middle next : ℕ} {found between left : List ℕ}
-    → Placed (λ bs. bs ≡ label) at found between middle → Placed (Field n newline) middle between left next
-    → Placed (NumberLine label n) at found left next
-number-line-placed {label} {n} p q =
-    placed-then (λ xs ys e d. subst (λ l. NumberLine label n (l ++ ys)) (sym e) (numberLine d)) p q
-
-pub field-length : (k : ℕ) {n end : ℕ} {bs : List ℕ} → Field n end bs → n < 10 ^ suc k → length bs ≤ k + 2
-field-length k {n} {end} (field {ds} d) lt = omega (arith, length-append ds (end ∷ []), decimal-length k d lt)
-
-pub field-most : (k : ℕ) {n end at next : ℕ} {found left : List ℕ} → Placed (Field n end) at found left next
-    → n < 10 ^ suc k → next ≤ at + (k + 2)
-field-most k p lt = omega (arith, p .ends, field-length k (p .such) lt)
+use Rattle.rendering.specs.Texts.{nodeIs, verdictIs, holdsText, violatedText, NodeLine, nodeLine}
+use Rattle.rendering.specs.Texts.{NodeLines, none, more, VerdictLine, holds, violated}
+use Rattle.printing.specs.Fields.{Field}
+use Rattle.printing.specs.Placed.{Placed}
+use Rattle.printing.proofs.Placing.{placed-length, placed-none, placed-as, placed-then}
+use Rattle.printing.proofs.Fields.{Then, then, field-most}
 
 node-line-is : (w : ℕ) (xs ys : List ℕ) → xs ≡ nodeIs
     → Then (Field (nodeOf w .rule) comma)

@@ -7,7 +7,8 @@ use native.Mathlib.Omega.{arith}
 use lib.ListN.{length, drop}
 use Rattle.trees.proofs.WordOrder.{node-one}
 use Rattle.decimals.specs.Decimals.{Decimal}
-use Rattle.rendering.specs.Texts.{Field, field, NodeLine, nodeLine, NodeLines, none, more}
+use Rattle.printing.specs.Fields.{Field, field}
+use Rattle.rendering.specs.Texts.{NodeLine, nodeLine, NodeLines, none, more}
 use Rattle.decimals.proofs.Digits.{decimal-number, decimal-digits}
 use Rattle.decimals.proofs.Standing.{digits-one}
 

@@ -4,7 +4,8 @@ use mathlib.Core.Path.{_≡_}
 use mathlib.Core.List.{List, [], _∷_, _++_}
 use Rattle.schedule.specs.Figures.{Figures}
 use Rattle.trees.specs.Nodes.{nodeOf}
-use Rattle.decimals.specs.Decimals.{Decimal, comma, newline}
+use Rattle.decimals.specs.Decimals.{comma, newline}
+use Rattle.printing.specs.Fields.{Field, NumberLine}
 
 -- "refused="
 abbrev pub refusedIs : List ℕ
@@ -33,14 +34,6 @@ sizeIs = 115 ∷ 105 ∷ 122 ∷ 101 ∷ 61 ∷ []
 -- "node="
 abbrev pub nodeIs : List ℕ
 nodeIs = 110 ∷ 111 ∷ 100 ∷ 101 ∷ 61 ∷ []
-
--- A number, and the byte that ends it.
-pub data Field (n end : ℕ) : List ℕ → Type 0 where
-  field : {ds : List ℕ} → Decimal ds n → Field n end (ds ++ (end ∷ []))
-
--- A line with one number.
-pub data NumberLine (label : List ℕ) (n : ℕ) : List ℕ → Type 0 where
-  numberLine : {ds : List ℕ} → Field n newline ds → NumberLine label n (label ++ ds)
 
 -- The line of a tree's word: rule, atom, number.
 pub data NodeLine (word : ℕ) : List ℕ → Type 0 where

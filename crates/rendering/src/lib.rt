@@ -3,15 +3,16 @@ use asking::Outcome;
 use asking::answer_of;
 use decimals::COMMA;
 use decimals::NEWLINE;
-ghost use mathlib.Core.Path.{_≡_};
+use printing::copy;
+use printing::field;
+use printing::number_line;
 ghost use Prim.Native.Nat.{_+_, _*_, _≤_, _<_};
 ghost use lib.ListN.{length, take};
-ghost use Rattle.decimals.specs.Decimals.{Decimal};
 ghost use Rattle.asking.specs.Answers.{figuresOf};
 ghost use Rattle.schedule.specs.Limits.{maxWords};
-ghost use Rattle.rendering.specs.Texts.{Field, NumberLine, NodeLine, NodeLines, VerdictLine, Rendered};
-ghost use Rattle.rendering.specs.Texts.{WrongText, LongText};
-ghost use Rattle.rendering.specs.Placed.{Placed};
+ghost use Rattle.rendering.specs.Texts.{NodeLine, NodeLines, VerdictLine, Rendered, WrongText};
+ghost use Rattle.rendering.specs.Texts.{LongText};
+ghost use Rattle.printing.specs.Placed.{Placed};
 
 // The bytes lent for a text: 4,095 lines of at most 19 bytes, the two lines before them, and room for any
 // number of 32 bits behind each place.
@@ -37,53 +38,6 @@ const SIZE: [u8; 5] = [115, 105, 122, 101, 61];
 
 // "node="
 const NODE: [u8; 5] = [110, 111, 100, 101, 61];
-
-// Writes a number's digits from a place on; answers the place behind them.
-// It calls itself for the digits before the last.
-fn decimal(out: &mut [u8], at: usize, n: u32) -> usize
-    requires { ⌜ at + 10 ≤ length (now out) ⌝ }
-    ensures { λ r. ⌜ Placed (λ ds. Decimal ds n) at (now (out .entry)) (now (out .exit)) r ⌝ }
-{
-    if n < 10 {
-        out[at] = 48 + n as u8;
-        return at + 1;
-    }
-    let next = decimal(out, at, n / 10);
-    out[next] = 48 + (n % 10) as u8;
-    next + 1
-}
-
-// Writes a text from a place on; answers the place behind it.
-fn copy(out: &mut [u8], at: usize, text: &[u8]) -> usize
-    requires { ⌜ at + length (now text) ≤ length (now out) ⌝ }
-    ensures { λ r. ⌜ Placed (λ bs. bs ≡ now (text .entry)) at (now (out .entry)) (now (out .exit)) r ⌝ }
-{
-    let mut k = 0;
-    while k < text.len() {
-        out[at + k] = text[k];
-        k += 1;
-    }
-    at + k
-}
-
-// Writes a number and the byte that ends it.
-fn field(out: &mut [u8], at: usize, n: u32, end: u8) -> usize
-    requires { ⌜ at + 11 ≤ length (now out) ⌝ }
-    ensures { λ r. ⌜ Placed (Field n end) at (now (out .entry)) (now (out .exit)) r ⌝ }
-{
-    let next = decimal(out, at, n);
-    out[next] = end;
-    next + 1
-}
-
-// Writes a line with one number.
-fn number_line(out: &mut [u8], at: usize, label: &[u8], n: u32) -> usize
-    requires { ⌜ at + length (now label) + 11 ≤ length (now out) ⌝ }
-    ensures { λ r. ⌜ Placed (NumberLine (now (label .entry)) n) at (now (out .entry)) (now (out .exit)) r ⌝ }
-{
-    let next = copy(out, at, label);
-    field(out, next, n, NEWLINE)
-}
 
 // Writes the line of a tree's word.
 fn node_line(out: &mut [u8], at: usize, word: u32) -> usize

@@ -15,8 +15,8 @@ use Rattle.trees.specs.declared.Verdict.{Verdict}
 use Rattle.theory.specs.inside.Frames.{Lawful}
 use Rattle.theory.specs.inside.Costs.{cutOff}
 use Rattle.theory.specs.inside.RunCosts.{sumRun}
-use Rattle.roots.specs.inside.Scans.{membersOf, listCost, Missed, Scanned}
-use Rattle.roots.specs.declared.Met.{Met}
+use Rattle.scans.specs.inside.Scans.{membersOf, listCost, Missed, Scanned}
+use Rattle.scans.specs.declared.Met.{Met}
 use Rattle.roots.proofs.Sums.{sum-grows}
 use Rattle.roots.proofs.Meets.{Costed, own-meets, none-before}
 

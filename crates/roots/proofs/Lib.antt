@@ -6,5 +6,4 @@ pub mod Meets
 pub mod PartPrices
 pub mod PlainFinds
 pub mod RootLaws
-pub mod Scanning
 pub mod Sums

@@ -19,9 +19,9 @@ use Rattle.theory.proofs.Horizon.{InWindow}
 use Rattle.theory.proofs.Windowed.{Windowed}
 use Rattle.cells.specs.inside.Meant.{CellFor}
 use Rattle.rows.specs.inside.Rows.{rowOf, rowLength}
-use Rattle.roots.specs.inside.Scans.{stepFrom, membersOf, pricesFrom, Reached, Scanned}
+use Rattle.scans.specs.inside.Scans.{stepFrom, membersOf, pricesFrom, Reached, Scanned}
 use Rattle.roots.specs.inside.Roots.{listRule}
-use Rattle.roots.specs.declared.Met.{Met}
+use Rattle.scans.specs.declared.Met.{Met}
 use Rattle.roots.proofs.Finds.{Ends, first-ends, alone-ends}
 use Rattle.roots.proofs.PartPrices.{heldBy, part-some}
 use Rattle.roots.proofs.ListRoots.{held-since, broken-since, never-since, held-until, broken-until}

@@ -14,7 +14,7 @@ use Rattle.trees.specs.declared.Verdict.the-variants.{Holds, Violated}
 use Rattle.theory.specs.inside.RunCosts.{sumRun}
 use Rattle.theory.specs.inside.Prices.{Price}
 use Rattle.cells.specs.inside.Meant.{CellFor}
-use Rattle.roots.specs.inside.Scans.{priceIn, stepFrom, membersOf, pricesFrom}
+use Rattle.scans.specs.inside.Scans.{priceIn, stepFrom, membersOf, pricesFrom}
 use Rattle.roots.proofs.Sums.{run-ahead, run-back}
 use Rattle.roots.proofs.Meets.{Costed}
 use Rattle.roots.proofs.PartPrices.{part-price, list-costs, first-costs}

@@ -20,7 +20,7 @@ use Rattle.theory.proofs.Cuts.{cut-again}
 use Rattle.theory.proofs.Costs.{cut-more}
 use Rattle.theory.proofs.CostsRuns.{run-costs}
 use Rattle.cells.specs.inside.Meant.{CellFor}
-use Rattle.roots.specs.inside.Scans.{priceIn}
+use Rattle.scans.specs.inside.Scans.{priceIn}
 
 abbrev pub heldBy : Verdict → Bool
 heldBy Holds = true

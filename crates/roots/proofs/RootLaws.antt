@@ -5,9 +5,9 @@ use mathlib.Core.List.{List}
 use Prim.Native.Nat.{ℕ, _+_}
 use Rattle.rules.specs.declared.Entry.{Entry}
 use Rattle.rows.specs.inside.Rows.{rowOf}
-use Rattle.roots.specs.inside.Scans.{pricesFrom, Reached, Scanned}
+use Rattle.scans.specs.inside.Scans.{pricesFrom, Reached, Scanned}
 use Rattle.roots.specs.inside.Roots.{rootWith, listRule, ListRoot, Readable, RootFor}
-use Rattle.roots.specs.declared.Met.{Met}
+use Rattle.scans.specs.declared.Met.{Met}
 use Rattle.roots.specs.declared.Root.{Root}
 
 -- a list's root, by the verdict and by whether the list stands alone

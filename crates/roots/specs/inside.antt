@@ -1,3 +1,2 @@
 pub mod Rooted
 pub mod Roots
-pub mod Scans

@@ -46,7 +46,7 @@ use Rattle.rows.specs.inside.Rows.{rowOf}
 use Rattle.cells.specs.inside.Meant.{CellFor}
 use Rattle.search.specs.inside.Filling.{FilledBelow}
 use Rattle.search.proofs.Filling.{cols-small}
-use Rattle.roots.specs.inside.Scans.{priceIn}
+use Rattle.scans.specs.inside.Scans.{priceIn}
 use Rattle.roots.specs.inside.Roots.{Readable, RootFor}
 use Rattle.roots.specs.inside.Rooted.{cellPrice, rootNode}
 use Rattle.writing.specs.inside.Writes.{Writable, RootOfLeast, Rooted}

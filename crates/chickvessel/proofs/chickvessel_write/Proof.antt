@@ -1,6 +1,6 @@
 -- `chickvessel::chickvessel_write` meets its contract.
 use mathlib.Core.Path.{sym, subst}
-use Rattle.chickvessel.specs.Wrote.{Wrote}
+use Rattle.wording.specs.Wrote.{Wrote}
 use borrow.Author.Needs.{needs}
 use Rattle.chickvessel.proofs.chickvessel_write.Statement.{statement}
 use Rattle.chickvessel.proofs.chickvessel_write.Tie as tie

@@ -4,7 +4,7 @@ use mathlib.Core.Path.{sym}
 use native.Mathlib.Omega.{arith}
 use borrow.Author.Needs.{needs}
 use lib.Seq.{length-take-le}
-use Rattle.rendering.proofs.Placing.{placed-length}
+use Rattle.printing.proofs.Placing.{placed-length}
 use Rattle.explain.proofs.main.Statement.{statement}
 use Rattle.explain.proofs.main.Tie as tie
 

@@ -1,5 +1,5 @@
 -- `finding::find` meets its contract: what was looked up, a case a return.
-use Rattle.finding.proofs.Looking.{looked-refused, looked-found}
+use Rattle.finding.proofs.Telling.{looked-refused, looked-found}
 use borrow.Author.Needs.{needs}
 use Rattle.finding.proofs.find.Statement.{statement}
 use Rattle.finding.proofs.find.Tie as tie

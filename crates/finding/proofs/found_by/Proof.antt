@@ -1,5 +1,5 @@
 -- `finding::found_by` meets its contract: a case a return.
-use Rattle.finding.proofs.Looking.{found-none, cell-least}
+use Rattle.finding.proofs.Telling.{found-none, cell-least}
 use borrow.Author.Needs.{needs}
 use Rattle.finding.proofs.found_by.Statement.{statement}
 use Rattle.finding.proofs.found_by.Tie as tie

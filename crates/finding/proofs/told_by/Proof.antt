@@ -1,5 +1,5 @@
 -- `finding::told_by` meets its contract.
-use Rattle.finding.proofs.Looking.{told-verdict}
+use Rattle.finding.proofs.Telling.{told-verdict}
 use borrow.Author.Needs.{needs}
 use Rattle.finding.proofs.told_by.Statement.{statement}
 use Rattle.finding.proofs.told_by.Tie as tie

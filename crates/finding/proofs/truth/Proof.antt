@@ -1,5 +1,5 @@
 -- `finding::truth` meets its contract: what was looked up, a case a return.
-use Rattle.finding.proofs.Looking.{looked-refused, looked-told}
+use Rattle.finding.proofs.Telling.{looked-refused, looked-told}
 use borrow.Author.Needs.{needs}
 use Rattle.finding.proofs.truth.Statement.{statement}
 use Rattle.finding.proofs.truth.Tie as tie

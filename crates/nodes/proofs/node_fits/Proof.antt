@@ -4,7 +4,7 @@ use native.Mathlib.Omega.{arith}
 use borrow.Author.Needs.{needs}
 use denote.Ref.{now}
 use Rattle.nodes.specs.inside.Fits.{rightOf}
-use Rattle.nodes.proofs.Words.{word-says}
+use Rattle.forms.proofs.Words.{word-says}
 use Rattle.nodes.proofs.Parts.{right-at-most}
 use Rattle.nodes.proofs.JudgedNodes.{node-malformed, node-atom, node-plain, node-counted}
 use Rattle.nodes.proofs.node_fits.Statement.{statement}

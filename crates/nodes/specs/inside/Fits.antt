@@ -14,7 +14,7 @@ use Rattle.trees.specs.Frames.{windowCount}
 use Rattle.trees.specs.Verdicts.{ruleSign, signOf}
 use Rattle.trees.specs.inside.Table.{ruleKind}
 use Rattle.trees.specs.declared.Verdict.{Verdict}
-use Rattle.nodes.specs.inside.Forms.{within}
+use Rattle.forms.specs.inside.Forms.{within}
 
 -- (A broken entry reads as atom 0.)
 abbrev pub kindOf : Entry → ℕ

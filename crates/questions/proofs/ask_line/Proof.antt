@@ -2,8 +2,8 @@
 use borrow.Author.Needs.{needs}
 use mathlib.Core.Path.{refl}
 use denote.Ref.{now}
-use Rattle.questions.specs.inside.Lists.{AskFields}
-use Rattle.questions.proofs.Wording.{lists-wrong, lists-read}
+use Rattle.questions.specs.inside.LinesRead.{AskFields}
+use Rattle.lists.proofs.Keyed.{lists-wrong, lists-read}
 use Rattle.questions.proofs.Entering.{ask-wrong, ask-count, ask-small, ask-read}
 use Rattle.questions.proofs.ask_line.Statement.{statement}
 use Rattle.questions.proofs.ask_line.Tie as tie

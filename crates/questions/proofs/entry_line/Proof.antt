@@ -3,8 +3,8 @@ use native.Mathlib.Omega.{arith}
 use borrow.Author.Needs.{needs}
 use mathlib.Core.Path.{refl}
 use denote.Ref.{now}
-use Rattle.questions.specs.inside.Lists.{EntryFields}
-use Rattle.questions.proofs.Wording.{lists-wrong, lists-read}
+use Rattle.questions.specs.inside.LinesRead.{EntryFields}
+use Rattle.lists.proofs.Keyed.{lists-wrong, lists-read}
 use Rattle.questions.proofs.Entering.{entry-wrong, entry-count, entry-small, entry-read}
 use Rattle.questions.proofs.entry_line.Statement.{statement}
 use Rattle.questions.proofs.entry_line.Tie as tie

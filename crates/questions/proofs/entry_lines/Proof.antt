@@ -6,7 +6,7 @@ use mathlib.Core.Path.{subst}
 use Prim.Native.Nat.{_-_}
 use lib.ListN.{length}
 use denote.Ref.{now}
-use Rattle.questions.specs.inside.Lists.{Enters}
+use Rattle.questions.specs.inside.LinesRead.{Enters}
 use Rattle.questions.proofs.Entering.{Entering, enter-none, enter-length, enter-done, enter-turn}
 use Rattle.questions.proofs.entry_lines.Statement.{statement}
 use Rattle.questions.proofs.entry_lines.Tie as tie

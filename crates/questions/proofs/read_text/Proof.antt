@@ -3,9 +3,11 @@ use native.Mathlib.Omega.{arith}
 use borrow.Author.Needs.{needs}
 use mathlib.Core.Path.{subst}
 use denote.Ref.{now}
-use Rattle.questions.specs.Texts.{prefixKey, loopKey, Letters}
-use Rattle.questions.specs.inside.Lists.{Worded, AskFound}
-use Rattle.questions.proofs.Wording.{lists-wrong, lists-read}
+use Rattle.questions.specs.Texts.{prefixKey, loopKey}
+use Rattle.lists.specs.Lines.{Letters}
+use Rattle.lists.specs.inside.Lists.{Worded}
+use Rattle.questions.specs.inside.LinesRead.{AskFound}
+use Rattle.lists.proofs.Keyed.{lists-wrong, lists-read}
 use Rattle.questions.proofs.Answers.{upto-prefix, upto-loop, wrong-prefix, wrong-loop, wrong-ask}
 use Rattle.questions.proofs.Answers.{wrong-behind, reads-refused, reads-whole}
 use Rattle.questions.proofs.read_text.Statement.{statement}

@@ -3,7 +3,7 @@
 use Prim.Native.Nat.{_-_}
 use native.Mathlib.Omega.{arith}
 use borrow.Author.Needs.{needs}
-use Rattle.rendering.proofs.Placing.{placed-length}
+use Rattle.printing.proofs.Placing.{placed-length}
 use Rattle.rendering.proofs.Lines.{Lined, lined-none, lined-room, lined-more, lined-done}
 use Rattle.rendering.proofs.node_lines.Statement.{statement}
 use Rattle.rendering.proofs.node_lines.Tie as tie

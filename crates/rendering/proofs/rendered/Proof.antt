@@ -3,8 +3,9 @@ use mathlib.Core.Path.{ap}
 use native.Mathlib.Omega.{arith}
 use borrow.Author.Needs.{needs}
 use denote.Ref.{now}
-use Rattle.rendering.proofs.Placing.{placed-length}
-use Rattle.rendering.proofs.Answering.{number-line-most, refused-placed, verdict-known, judged-placed}
+use Rattle.printing.proofs.Placing.{placed-length}
+use Rattle.printing.proofs.Fields.{number-line-most}
+use Rattle.rendering.proofs.Answering.{refused-placed, verdict-known, judged-placed}
 use Rattle.rendering.proofs.rendered.Statement.{statement}
 use Rattle.rendering.proofs.rendered.Tie as tie
 

@@ -3,7 +3,7 @@ use mathlib.Core.Path.{ap}
 use native.Mathlib.Omega.{arith}
 use borrow.Author.Needs.{needs}
 use lib.ListN.{length}
-use Rattle.rendering.proofs.Placing.{placed-length}
+use Rattle.printing.proofs.Placing.{placed-length}
 use Rattle.rendering.proofs.Lines.{holds-placed, violated-placed}
 use Rattle.rendering.proofs.verdict_line.Statement.{statement}
 use Rattle.rendering.proofs.verdict_line.Tie as tie

@@ -1,8 +1,9 @@
 -- `rendering::wrong_text` meets its contract.
 use native.Mathlib.Omega.{arith}
 use borrow.Author.Needs.{needs}
-use Rattle.rendering.proofs.Placing.{placed-length}
-use Rattle.rendering.proofs.Answering.{number-line-most, wrong-placed}
+use Rattle.printing.proofs.Placing.{placed-length}
+use Rattle.printing.proofs.Fields.{number-line-most}
+use Rattle.rendering.proofs.Answering.{wrong-placed}
 use Rattle.rendering.proofs.wrong_text.Statement.{statement}
 use Rattle.rendering.proofs.wrong_text.Tie as tie
 

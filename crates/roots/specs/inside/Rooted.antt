@@ -2,7 +2,7 @@
 use Prim.Native.Nat.{ℕ}
 use Rattle.trees.specs.Nodes.{Node, node}
 use Rattle.cells.specs.inside.Cells.{holdsIn}
-use Rattle.roots.specs.inside.Scans.{priceIn}
+use Rattle.scans.specs.inside.Scans.{priceIn}
 use Rattle.roots.specs.declared.Root.{Root}
 
 -- The price that a cell tells, of a tree of its own verdict.

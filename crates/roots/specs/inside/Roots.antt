@@ -11,8 +11,8 @@ use Rattle.rules.specs.declared.Unary.the-variants.{Not}
 use Rattle.rules.specs.declared.Binary.the-variants.{Or, And, Since, Until}
 use Rattle.cells.specs.inside.Cells.{proOf, conOf}
 use Rattle.rows.specs.inside.Rows.{rowOf}
-use Rattle.roots.specs.inside.Scans.{pricesFrom, Reached, Scanned}
-use Rattle.roots.specs.declared.Met.{Met}
+use Rattle.scans.specs.inside.Scans.{pricesFrom, Reached, Scanned}
+use Rattle.scans.specs.declared.Met.{Met}
 use Rattle.roots.specs.declared.Root.{Root}
 
 abbrev pub rootWith : ℕ → ℕ → ℕ → Root

@@ -1,4 +1,0 @@
-pub mod Alike
-pub mod Reading
-pub mod WritingOut
-pub mod DeterminedWrote

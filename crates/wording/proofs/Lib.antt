@@ -1,0 +1,4 @@
+pub mod Alike
+pub mod DeterminedWrote
+pub mod Reading
+pub mod WritingOut
