@@ -1,4 +1,6 @@
 // A question put to its tests, in one order for all entry points; every answer, and its figures.
+#![tactic(auto)]
+
 ghost use Rattle.std.specs.Prelude.{◌≡◌};
 ghost use Rattle.asking.specs.Answers.{number_of, figures_of, answer_of};
 ghost use Rattle.asking.specs.Questions.{question, table_tests, question_tests, length_test, work_tests};

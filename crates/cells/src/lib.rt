@@ -1,4 +1,6 @@
 // The number that a cell of the work slice holds, and how it comes from the cells of the parts.
+#![tactic(auto)]
+
 ghost use Rattle.std.specs.Prelude.{◌≡◌, ◌+◌, ◌/◌, ◌%◌, ◌^◌, ◌<◌, ◌≤◌, min, true, ◌&&◌, ◌||◌};
 ghost use Rattle.theory.specs.inside.Costs.{cut, cut_off};
 ghost use Rattle.cells.specs.inside.Cells.{holds_in, pro_of, con_of, goes_on, cell_of, not_state, or_state};

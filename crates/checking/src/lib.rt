@@ -1,4 +1,6 @@
 // Check: whether words are a valid tree for a question, or where they break off.
+#![tactic(auto)]
+
 ghost use Rattle.schedule.specs.Tests.{AllPass};
 ghost use Rattle.asking.specs.Answers.{figures_of};
 ghost use Rattle.asking.specs.Questions.{question, question_tests};

@@ -1,4 +1,6 @@
 // The calls from C: check, truth, find and write, each answered in four figures.
+#![tactic(auto)]
+
 ghost use Rattle.asking.specs.Answers.{answer_of};
 ghost use Rattle.asking.specs.Questions.{question};
 ghost use Rattle.checking.specs.Checked.{Checked};

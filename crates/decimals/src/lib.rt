@@ -1,4 +1,6 @@
 // Decimal numbers in a text of bytes.
+#![tactic(auto)]
+
 ghost use Rattle.std.specs.Prelude.{◌≤◌, length};
 ghost use Rattle.decimals.specs.inside.Numbers.{Figure, Numbered};
 

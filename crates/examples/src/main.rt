@@ -1,5 +1,7 @@
 // Prints what the letter view shows, which C cannot call. The measured examples are a theorem
 // (proofs/Starred) and case lines.
+#![tactic(auto)]
+
 mod views;
 
 fn main() {

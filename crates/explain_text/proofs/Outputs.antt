@@ -14,18 +14,64 @@ use Rattle.wording.specs.Wrote.{Written, unwritten, too_short, written, Wrote}
 use Rattle.asking.specs.declared.Outcome.{Outcome}
 use Rattle.asking.specs.declared.Outcome.TheVariants.{Refused, NotValid, Judged}
 use Rattle.finding.proofs.Working.{worked-answer, worked-passed}
-use Rattle.questions.specs.Texts.{WrongLine}
-use Rattle.reading.specs.Reads.{max_text}
-use Rattle.reading.specs.declared.TextAnswer.{TextAnswer}
-use Rattle.reading.proofs.Said.{ReadWhole}
+use Rattle.questions.specs.Texts.{ask_key, Said, Line, prefixed, looped, entered, RightLines, begun, further}
+use Rattle.questions.specs.Texts.{WrongLine, stuck, goes_on}
+use Rattle.lists.specs.Lines.{line_of}
+use Rattle.questions.specs.inside.Questions.{Understood}
+use Rattle.questions.specs.declared.TextRead.{TextRead}
 use Rattle.rendering.specs.Texts.{Rendered, WrongText, LongText}
 use Rattle.printing.specs.Placed.{Placed}
 use Rattle.printing.proofs.Placing.{placed-as}
-use Rattle.explain_text.specs.Explained.{Output}
+use Rattle.explain_text.specs.Explained.{max_text, Output}
 use Rattle.explain_text.specs.Explained
 use Rattle.explain_text.proofs.Capped.{capped-wrote}
 use Rattle.schedule.proofs.Buffers.{put_front}
 use Rattle.schedule.specs.Buffers.{put}
+
+-- What is kept of a list: its beginning.
+module _ (size : ℕ) (found ns : List ℕ) (n : ℕ) (e : n ≡ min (length ns) size) where
+  cut-is : length (take size ns) ≡ n
+  cut-is = omega (arith, e, length-take size ns)
+
+  pub kept-room : n ≤ length (put 0 (take size ns) found)
+  kept-room =
+      omega (
+        arith,
+        cut-is,
+        ap length (put_front (take size ns) found),
+        length-append (take size ns) (drop (length (take size ns)) found),
+      )
+
+  pub kept-front : take n (put 0 (take size ns) found) ≡ take size ns
+  kept-front =
+      ap (λ k. take k (put 0 (take size ns) found)) (sym cut-is)
+      ∙ ap (take (length (take size ns))) (put_front (take size ns) found)
+      ∙ take-append_seam (take size ns) (drop (length (take size ns)) found)
+
+-- A line has a byte at least, so there are no more lines than bytes.
+line-some : {k : ℕ} {s t : Said} {bs : List ℕ} → Line k s bs t → 1 ≤ length bs
+line-some (prefixed z ls) = omega arith
+line-some (looped o ls) = omega arith
+line-some (entered le cs) = omega arith
+
+lines-few : {k : ℕ} {bs : List ℕ} {s : Said} → RightLines k bs s → k ≤ length bs
+lines-few begun = omega arith
+lines-few (further {bs} {new} r l) = omega (arith, lines-few r, line-some l, length-append bs new)
+
+pub wrong-few : {text : List ℕ} {k : ℕ} → WrongLine text k → k ≤ length text + 2
+wrong-few (stuck b more whole) =
+    omega (arith, lines-few b.right, ap length b.whole, length-append b.front b.rest)
+wrong-few (goes_on b is) =
+    let w = b.asked in
+    omega (
+      arith,
+      w.count,
+      lines-few w.right,
+      ap length w.whole,
+      length-append w.front (line_of ask_key w.fields),
+      ap length b.whole,
+      length-append b.front b.rest,
+    )
 
 -- The size is no larger than a tree may be, and than what is left in the buffer.
 module _ {q : Question} {tree left : List ℕ} where
@@ -53,15 +99,47 @@ module _ {text work tree out out_left : List ℕ} {r : ℕ} where
   output-wrong {line_of} le w = placed-as (λ bs t. Explained.wrong line_of le w refl refl t)
 
 -- The answer to the question that was read, from the lists that were kept.
-pub output-answered : {text work work_left tree tree_left out out_left pn ln tn : List ℕ} {r : ℕ}
-    {q : TextAnswer} {figures : Figures} → (u : ReadWhole text pn ln tn q)
-    → Wrote (question (take q.prefix pn) (take q.looped ln) (take q.entries tn) q.entry
-    q.position) work work_left tree tree_left figures
+pub output-answered : {text work work_left tree tree_left out out_left : List ℕ} {r : ℕ}
+    {pf pn lf ln tf tn : List ℕ} {q : TextRead} {figures : Figures} {n m k : ℕ} → length text ≤ max_text
+    → (u : Understood text pf pn lf ln tf tn q) → n ≡ min q.prefix 49 → m ≡ min q.looped 49
+    → k ≡ min q.entries 33
+    → Wrote (question (take n pn) (take m ln) (take k tn) q.entry q.position) work work_left tree
+    tree_left figures
     → Placed (Rendered figures (take figures.size tree_left)) 0 out out_left r
     → Placed (Output text work work_left tree tree_left) 0 out out_left r
-output-answered {work = work} {work_left} {tree} {tree_left} {q = q} {figures} u w =
+output-answered {work = work} {work_left} {tree} {tree_left} {pf = pf} {pn} {lf} {ln} {tf} {tn} {q} {figures}
+    {n} {m} {k} le u en em ek w =
     let s = u.says in
+    let front = ap (take n) u.prefix-kept
+    ∙ kept-front 49 pf s.prefix n (en ∙ ap (λ c. min c 49) u.prefix) in
+    let loop = ap (take m) u.loop-kept
+    ∙ kept-front 49 lf s.loop m (em ∙ ap (λ c. min c 49) u.looped) in
+    let table = ap (take k) u.table_kept
+    ∙ kept-front 33 tf s.table k (ek ∙ ap (λ c. min c 33) u.entries) in
     let capped = subst (λ a. Wrote a work work_left tree tree_left figures)
-    (λ j. question (u.prefix-front j) (u.loop-front j) (u.table-front j) q.entry q.position) w in
-    placed-as (λ bs t. Explained.answered s q.entry q.position u.lines figures u.within u.whole
+    (λ j. question (front j) (loop j) (table j) q.entry q.position) w in
+    placed-as (λ bs t. Explained.answered s q.entry q.position u.lines figures le u.whole
     (capped-wrote s.prefix s.loop s.table q.entry q.position capped) t)
+
+-- room for the lists that are lent
+module _ {text pf pn lf ln tf tn : List ℕ} {q : TextRead} (u : Understood text pf pn lf ln tf tn q) where
+  pub prefix-room : {n : ℕ} → n ≡ min q.prefix 49 → n ≤ length pn
+  prefix-room {n} e = omega (
+    arith,
+    kept-room 49 pf u.says.prefix n (e ∙ ap (λ c. min c 49) u.prefix),
+    ap length u.prefix-kept,
+  )
+
+  pub loop-room : {n : ℕ} → n ≡ min q.looped 49 → n ≤ length ln
+  loop-room {n} e = omega (
+    arith,
+    kept-room 49 lf u.says.loop n (e ∙ ap (λ c. min c 49) u.looped),
+    ap length u.loop-kept,
+  )
+
+  pub table-room : {n : ℕ} → n ≡ min q.entries 33 → n ≤ length tn
+  table-room {n} e = omega (
+    arith,
+    kept-room 33 tf u.says.table n (e ∙ ap (λ c. min c 33) u.entries),
+    ap length u.table_kept,
+  )

@@ -5,9 +5,12 @@ use Rattle.schedule.specs.Figures.{Figures}
 use Rattle.asking.specs.Questions.{question}
 use Rattle.wording.specs.Wrote.{Wrote}
 use Rattle.questions.specs.Texts.{Said, Whole, WrongLine}
-use Rattle.reading.specs.Reads.{max_text}
 use Rattle.rendering.specs.Texts.{Rendered, WrongText, LongText}
 use Rattle.printing.specs.Placed.{Placed}
+
+-- The most bytes of a text.
+abbrev pub max_text : ℕ
+max_text = 8192
 
 -- The output, and what is left in the work slice and the tree buffer.
 pub data Output (text work work_left tree tree_left : List ℕ) (bytes : List ℕ) : Type 0 where

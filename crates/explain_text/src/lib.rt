@@ -1,11 +1,27 @@
-// The text program as a function on bytes: the text of a question in, the text of its answer out. And the C
-// calls for texts.
-ghost use Rattle.reading.specs.Reads.{Reads};
+// The text program as a function on bytes: the text of a question in, the text of its answer out.
+#![tactic(auto)]
+
+ghost use Rattle.std.specs.Prelude.{◌≡◌, min};
 ghost use Rattle.explain_text.specs.Explained.{Explained};
 
-use reading::{KEPT_ENTRIES, KEPT_LETTERS, TextAnswer};
 use rendering::MAX_OUTPUT;
 use schedule::{MAX_WORDS, WORK_LENGTH};
+
+pub const MAX_TEXT: usize = 8192;
+
+// Letters and entries that are kept: more than any question may have, so that too many still show.
+const KEPT_LETTERS: usize = 49;
+
+const KEPT_ENTRIES: usize = 33;
+
+fn smaller(a: usize, b: usize) -> usize
+    ensures { result ≡ min a b }
+{
+    if a < b {
+        return a;
+    }
+    b
+}
 
 // The output for a text of any bytes: how many bytes of it stand in the buffer.
 pub fn explain(
@@ -17,25 +33,25 @@ pub fn explain(
     ensures { Explained text.now work.old work.new tree.old
         tree.new out.old out.new result }
 {
+    if MAX_TEXT < text.len() {
+        return rendering::long_text(out);
+    }
     let mut prefix = [0u32; KEPT_LETTERS];
     let mut looped = [0u32; KEPT_LETTERS];
     let mut table = [0u32; KEPT_ENTRIES];
-    let said = reading::read(text, &mut prefix, &mut looped, &mut table);
-    if said.number == 14 {
-        return rendering::long_text(out);
+    let question = questions::read_text(text, &mut prefix, &mut looped, &mut table);
+    if question.wrong {
+        return rendering::wrong_text(out, question.line);
     }
-    if said.number == 13 {
-        return rendering::wrong_text(out, said.line as usize);
-    }
-    let in_prefix = said.prefix;
-    let in_loop = said.looped;
-    let entries = said.entries;
+    let in_prefix = smaller(question.prefix, KEPT_LETTERS);
+    let in_loop = smaller(question.looped, KEPT_LETTERS);
+    let entries = smaller(question.entries, KEPT_ENTRIES);
     let outcome = wording::write(
         &prefix[..in_prefix],
         &looped[..in_loop],
         &table[..entries],
-        said.entry,
-        said.position,
+        question.entry,
+        question.position,
         work,
         tree,
     );
@@ -53,17 +69,4 @@ pub extern "C" fn chickvessel_explain(
         tree.new out.old out.new result }
 {
     explain(text, work, tree, out)
-}
-
-#[unsafe(no_mangle)]
-pub extern "C" fn chickvessel_read_text(
-    text: &[u8],
-    prefix: &mut [u32; KEPT_LETTERS],
-    looped: &mut [u32; KEPT_LETTERS],
-    table: &mut [u32; KEPT_ENTRIES],
-) -> TextAnswer
-    ensures { Reads text.now prefix.old prefix.new
-        looped.old looped.new table.old table.new result }
-{
-    reading::read(text, prefix, looped, table)
 }

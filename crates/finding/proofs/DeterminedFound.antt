@@ -1,4 +1,4 @@
--- Two results that meet find's contract coincide, in figures and work slice, whatever the slice held;
+-- Two results that meet find's contract coincide, in figures and work slice;
 -- what find gives is true, and the least.
 use mathlib.Core.Path.{◌≡◌, refl, sym, ap, subst, ◌∙◌}
 use mathlib.Core.Logic.{◌↔◌}
@@ -25,8 +25,7 @@ use Rattle.finding.specs.Told.{Meaning, meant, Told}
 use Rattle.finding.specs.Found.{LeastIn, AllLarge, LeastSize, too_large, least, Found}
 use Rattle.asking.proofs.Limits.{work-loop}
 use Rattle.trees.proofs.Verdicts.{root-sign}
-use Rattle.finding.proofs.Working.{LeftAlike, left_one, worked-either, worked-alike}
-use Rattle.finding.proofs.Working.{worked-answer, worked-passed}
+use Rattle.finding.proofs.Working.{worked-either, worked-alike, worked-answer, worked-passed}
 use Rattle.finding.proofs.DeterminedTold.{means-one}
 
 -- The least tree that an answer speaks of.
@@ -67,7 +66,7 @@ module _ (q : Question) where
     size_is = ap (λ g. g.size) e;
   }
 
-  pub large-answer : {r : Figures} → LeastSize q r → (r.number ≡ 11) ↔ AllLarge q
+  large-answer : {r : Figures} → LeastSize q r → (r.number ≡ 11) ↔ AllLarge q
   large-answer (too_large a) = (λ _. a, λ _. refl)
   large-answer (least l le) = (λ e. absurd (omega arith), λ a. absurd (not-large a l le))
 
@@ -79,29 +78,10 @@ module _ (q : Question) where
       (means-one (word_in q) (formula_in q) q.position v l.verdict m
       (schedule-sound q.prefix q.loop some l.valid))
 
-  -- Two slices of one length, whatever they hold.
-  module _ (found found' left left' : List ℕ) (t r : Figures) (long : length found ≡ length found') where
-    pub find-slice : Found q found left t → Found q found' left' r
-        → (t ≡ r) × LeftAlike found left found' left'
-    find-slice a b = worked-alike long size-one a b
-
-    pub truth-find-agree : Told q found left t → Found q found' left' r → r.number ≡ 0 → t ≡ unsized r
-    truth-find-agree a b zero =
-        let none = worked-passed zero b in
-        let same = subst (λ n. AllPass (work_tests q n)) (sym long) none in
-        agree (work-loop q (length found') none) (worked-answer same a) (worked-answer none b) zero
-
-    -- and where one is refused with 1 to 8, so is the other
-    pub truth-find-refused : Told q found left t → Found q found' left' r
-        → {s : Figures} → FirstFails (work_tests q (length found)) s → t ≡ r
-    truth-find-refused a b fails =
-        worked-either long (λ same _. same) (λ passed _ _ _. absurd (fails-or-passes fails passed)) a b
-
   module _ (work : List ℕ) where
     pub find-one : (left left' : List ℕ) (r s : Figures) → Found q work left r → Found q work left' s
         → (r ≡ s) × (left ≡ left')
-    find-one left left' r s a b =
-        let alike = find-slice work work left left' r s refl a b in (alike.0, left_one alike.1)
+    find-one left left' r s a b = worked-alike size-one a b
 
     -- Asked within the limits, with room to work in: 11 exactly if every valid
     -- tree has more than 4,095 nodes.
@@ -134,3 +114,15 @@ module _ (q : Question) where
             cost-ones small.nodes,
             small.size_is,
           )
+
+    pub truth-find-agree : (left left' : List ℕ) (t r : Figures) → Told q work left t → Found q work left' r
+        → r.number ≡ 0 → t ≡ unsized r
+    truth-find-agree left left' t r a b zero =
+        let none = worked-passed zero b in
+        agree (work-loop q (length work) none) (worked-answer none a) (worked-answer none b) zero
+
+    -- and where one is refused with 1 to 8, so is the other
+    pub truth-find-refused : (left left' : List ℕ) (t r : Figures) → Told q work left t → Found q work left' r
+        → {s : Figures} → FirstFails (work_tests q (length work)) s → t ≡ r
+    truth-find-refused left left' t r a b fails =
+        worked-either (λ same _. same) (λ passed _ _ _. absurd (fails-or-passes fails passed)) a b

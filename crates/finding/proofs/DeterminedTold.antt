@@ -1,4 +1,4 @@
--- Two results that meet truth's contract coincide, in figures and work slice, whatever the slice held;
+-- Two results that meet truth's contract coincide, in figures and work slice;
 -- truth gives a verdict exactly if the meaning has it.
 use mathlib.Core.Path.{◌≡◌, refl, ap, subst}
 use mathlib.Core.Logic.{◌↔◌}
@@ -19,7 +19,7 @@ use Rattle.asking.specs.Answers.{verdict_with}
 use Rattle.asking.specs.Questions.{Question, word_in, formula_in, claim_in, work_tests}
 use Rattle.finding.specs.Worked.{answered}
 use Rattle.finding.specs.Told.{Meaning, meant, Told}
-use Rattle.finding.proofs.Working.{LeftAlike, left_one, worked-alike, worked-answer}
+use Rattle.finding.proofs.Working.{worked-alike, worked-answer}
 
 pub means-one : (word : ℕ → ℕ) (f : Formula) (i : ℕ) (v w : Verdict) → Means word (claim f i v)
     → Means word (claim f i w) → v ≡ w
@@ -37,16 +37,10 @@ module _ (q : Question) where
       → Means (word_in q) (claim_in q v)
   meaning-verdict (meant w m) v e = subst (λ k. Means (word_in q) (claim_in q k)) (sign-one {a = w} {b = v} e) m
 
-  -- Two slices of one length, whatever they hold.
-  pub truth-slice : (found found' left left' : List ℕ) (r s : Figures) → length found ≡ length found'
-      → Told q found left r → Told q found' left' s → (r ≡ s) × LeftAlike found left found' left'
-  truth-slice found found' left left' r s long a b = worked-alike long meaning-one a b
-
   module _ (work : List ℕ) where
     pub truth-one : (left left' : List ℕ) (r s : Figures) → Told q work left r → Told q work left' s
         → (r ≡ s) × (left ≡ left')
-    truth-one left left' r s a b =
-        let alike = truth-slice work work left left' r s refl a b in (alike.0, left_one alike.1)
+    truth-one left left' r s a b = worked-alike meaning-one a b
 
     -- Asked within the limits, with room to work in, a verdict is told exactly if it is the
     -- meaning's over the endless word.

@@ -1,5 +1,5 @@
 pub mod DeterminedFound
 pub mod DeterminedTold
-pub mod OneVerdict
 pub mod Telling
 pub mod Working
+pub mod OneVerdict

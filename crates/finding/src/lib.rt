@@ -1,4 +1,6 @@
 // Truth and find: what the cell of the question says, as an answer.
+#![tactic(auto)]
+
 ghost use Rattle.std.specs.Prelude.{◌≡◌};
 ghost use Rattle.asking.specs.Answers.{figures_of};
 ghost use Rattle.asking.specs.Questions.{question};

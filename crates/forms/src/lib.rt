@@ -1,4 +1,6 @@
 // The form of a word of a tree, by cases on its rule.
+#![tactic(auto)]
+
 ghost use Rattle.std.specs.Prelude.{◌≡◌, ◌≤◌};
 ghost use Rattle.forms.specs.inside.Forms.{form_from, form_of};
 

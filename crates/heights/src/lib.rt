@@ -1,4 +1,6 @@
 // The two heights of an entry, worked out by following its parts down, and whether all are within the limit.
+#![tactic(auto)]
+
 ghost use Rattle.std.specs.Prelude.{◌≡◌, ◌<◌, max, length};
 ghost use Rattle.rules.specs.Formula.{height, since_adds, until_adds};
 ghost use Rattle.rules.specs.Tables.{formula_of};

@@ -1,4 +1,6 @@
 // Lists of numbers in a text: a keyword, numbers with commas, a newline.
+#![tactic(auto)]
+
 ghost use Rattle.std.specs.Prelude.{◌≤◌, ◌≡◌, true, length, set};
 ghost use Rattle.lists.specs.Lines.{Commas, Letters};
 ghost use Rattle.lists.specs.inside.Lists.{Keyword, Worded, Lists};

@@ -1,4 +1,6 @@
 // The cell of a question: the work slice filled, the cell of the asked position, and what it says.
+#![tactic(auto)]
+
 ghost use Rattle.std.specs.Prelude.{◌≡◌, ◌≤◌, length};
 ghost use Rattle.schedule.specs.Tests.{AllPass};
 ghost use Rattle.search.specs.inside.Filling.{reach_of};

@@ -1,4 +1,6 @@
 // The test of one node: its form, then kind, sign, count, position and letter.
+#![tactic(auto)]
+
 ghost use Rattle.std.specs.Prelude.{◌≡◌, ◌+◌, ◌^◌, ◌≤◌, ◌<◌, length};
 ghost use Rattle.schedule.specs.Limits.{max_letters, max_entries};
 ghost use Rattle.rules.specs.Tables.{entry_at, formula_of};

@@ -1,4 +1,6 @@
 // What a node asks of its parts, and the part that stands at a place.
+#![tactic(auto)]
+
 ghost use Rattle.std.specs.Prelude.{◌≡◌, ◌+◌, ◌^◌, ◌≤◌, ◌<◌};
 ghost use Rattle.nodes.specs.inside.Demands.{opposite, first_of, verdict_of, plain_demands, list_demands};
 ghost use Rattle.nodes.specs.inside.Demands.{count_demands, Countable, demands_of, part_of};

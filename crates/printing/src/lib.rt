@@ -1,4 +1,6 @@
 // Bytes of an output: a number, a label, a line with one number, from a place on.
+#![tactic(auto)]
+
 ghost use Rattle.std.specs.Prelude.{◌≡◌, ◌+◌, ◌≤◌, ◌<◌, length};
 ghost use Rattle.decimals.specs.Decimals.{Decimal};
 ghost use Rattle.printing.specs.Fields.{Field, NumberLine};

@@ -1,4 +1,6 @@
 // The text of a question, read line by line: prefix, loop, entries, ask.
+#![tactic(auto)]
+
 ghost use Rattle.std.specs.Prelude.{◌≤◌, ◌≡◌, true, length};
 ghost use Rattle.questions.specs.Texts.{prefix_key, loop_key};
 ghost use Rattle.lists.specs.Lines.{Letters};

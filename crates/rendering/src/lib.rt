@@ -1,4 +1,6 @@
 // The output of the text program: an answer and its tree as lines of text, in the caller's bytes.
+#![tactic(auto)]
+
 ghost use Rattle.std.specs.Prelude.{◌+◌, ◌*◌, ◌≤◌, ◌<◌, length, take};
 ghost use Rattle.asking.specs.Answers.{figures_of};
 ghost use Rattle.schedule.specs.Limits.{max_words};

@@ -1,4 +1,6 @@
 // The root of the least tree, from the filled cells: the first in the order of words that meets the price.
+#![tactic(auto)]
+
 ghost use Rattle.std.specs.Prelude.{◌≡◌, ◌+◌, ◌≤◌, ◌<◌, true, false, cond, length};
 ghost use Rattle.rows.specs.inside.Rows.{row_of, row_length};
 ghost use Rattle.scans.specs.inside.Scans.{prices_from, Reached};

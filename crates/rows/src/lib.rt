@@ -1,4 +1,6 @@
 // A row of the work slice, filled from the rows of its parts: one loop a kind.
+#![tactic(auto)]
+
 ghost use Rattle.std.specs.Prelude.{◌≡◌, ◌+◌, ◌*◌, ◌<◌, ◌≤◌, length};
 ghost use Rattle.schedule.specs.Letters.{letter_at};
 ghost use Rattle.theory.specs.inside.RunCosts.{sum_run};

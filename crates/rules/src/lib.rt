@@ -1,4 +1,6 @@
 // Rule tables: what an entry says, whether all keep the kind table, and the record that a list is read into.
+#![tactic(auto)]
+
 ghost use Rattle.std.specs.Prelude.{◌≡◌, ◌≤◌, ◌<◌, length};
 ghost use Rattle.schedule.specs.Limits.{max_entries};
 ghost use Rattle.rules.specs.Entries.{entry_of, is_alone, are_earlier, binary_of, pair_of, is_kept};

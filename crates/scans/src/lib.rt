@@ -1,4 +1,6 @@
 // A scan along a list for the first witness with which a root meets its price, ahead or back from a position.
+#![tactic(auto)]
+
 ghost use Rattle.std.specs.Prelude.{◌≡◌, ◌+◌, ◌≤◌, ◌<◌, true, false, length};
 ghost use Rattle.rows.specs.inside.Rows.{row_of};
 ghost use Rattle.scans.specs.inside.Scans.{price_in, step_from, members_of, listed_of, prices_from, Reached};

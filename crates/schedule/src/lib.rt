@@ -1,5 +1,7 @@
 // Schedules: the lengths of prefix and loop with the limits of the job,
 // the letter view, and the letter at a position.
+#![tactic(auto)]
+
 ghost use Rattle.std.specs.Prelude.{◌≡◌, ◌/◌, ◌%◌, ◌^◌};
 ghost use Rattle.schedule.specs.Lengths.{Makes};
 ghost use Rattle.schedule.specs.Letters.{View, letter_at};

@@ -1,4 +1,6 @@
 // One filling of the work slice, row by row, and its clearing.
+#![tactic(auto)]
+
 ghost use Rattle.std.specs.Prelude.{◌≡◌, suc, ◌+◌, ◌*◌, ◌<◌, ◌≤◌, length};
 ghost use Rattle.trees.specs.Frames.{schedule_frame};
 ghost use Rattle.trees.specs.Least.{ones};

@@ -1,1 +1,2 @@
 // No code: the theorems about schedules, rules and trees that stand on their own, in proofs/.
+#![tactic(auto)]

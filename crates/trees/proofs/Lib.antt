@@ -5,9 +5,9 @@ pub mod Forests
 pub mod Places
 pub mod Laid
 pub mod Claims
-pub mod FixedParts
 pub mod Beginnings
 pub mod Order
 pub mod WordOrder
 pub mod Determined
 pub mod Verdicts
+pub mod FixedParts

@@ -1,4 +1,6 @@
 // The constant table of the sixteen rules, and the verdict that a word claims.
+#![tactic(auto)]
+
 ghost use Rattle.std.specs.Prelude.{◌≡◌, ◌/◌, ◌≤◌, ◌<◌};
 ghost use Rattle.trees.specs.Verdicts.{rule_sign, sign_of, proven_by, claimed_by};
 ghost use Rattle.trees.specs.inside.Table.{rule_kind, rule_fixed};

@@ -1,4 +1,6 @@
 // The walk through a tree: every word tested, in tree order.
+#![tactic(auto)]
+
 ghost use Rattle.std.specs.Prelude.{◌+◌, ◌≤◌, ◌<◌, map, length};
 ghost use Rattle.rules.specs.Tables.{formula_of};
 ghost use Rattle.trees.specs.Nodes.{node_of};

@@ -1,5 +1,5 @@
 pub mod Alike
 pub mod DeterminedWrote
-pub mod InWords
 pub mod Reading
 pub mod WritingOut
+pub mod InWords

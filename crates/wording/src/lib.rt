@@ -1,4 +1,6 @@
 // Write: the words of the least tree, in the buffer that the caller lends.
+#![tactic(auto)]
+
 ghost use Rattle.std.specs.Prelude.{length};
 ghost use Rattle.schedule.specs.Tests.{AllPass};
 ghost use Rattle.asking.specs.Answers.{figures_of};

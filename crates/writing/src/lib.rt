@@ -1,4 +1,6 @@
 // The words of the least tree, from the filled work slice: the root, then its parts.
+#![tactic(auto)]
+
 ghost use Rattle.std.specs.Prelude.{◌≡◌, ◌+◌, ◌<◌, length};
 ghost use Rattle.rules.specs.Tables.{entry_at, formula_of};
 ghost use Rattle.trees.specs.Nodes.{node_of};
