@@ -65,7 +65,8 @@ module _ (rest : ℕ) where
   lengths-same false false = refl
 
   table_same : (zero many kept : Bool)
-      → or_else (cond (zero || many) 3 (cond kept 0 4)) rest ≡ cond (not zero && not many) (cond kept rest 4) 3
+      → or_else (cond (zero || many) 3 (cond kept 0 4)) rest
+      ≡ cond (not zero && not many) (cond kept rest 4) 3
   table_same true many kept = refl
   table_same false true kept = refl
   table_same false false true = refl

@@ -10,7 +10,7 @@ use schedule::{MAX_POSITION, Made, Schedule, WORK_LENGTH};
 use trees::{Verdict, sign_of};
 
 // Every refusal but 9, which has a place.
-#[derive(Drop)]
+#[derive(Clone, Copy)]
 pub enum Refusal {
     EmptyLoop,
     TooLong,
@@ -26,7 +26,7 @@ pub enum Refusal {
 }
 
 // Every answer of every entry point: a refusal, the place where words are no tree, or a verdict with a size.
-#[derive(Drop)]
+#[derive(Clone, Copy)]
 pub enum Outcome {
     Refused(Refusal),
     NotValid(u32),
@@ -35,7 +35,7 @@ pub enum Outcome {
 
 // The figures of an answer, as they cross to C.
 #[repr(C)]
-#[derive(Drop)]
+#[derive(Clone, Copy)]
 pub struct Answer {
     pub number: u32,
     pub place: u32,
@@ -44,7 +44,7 @@ pub struct Answer {
 }
 
 // What tests answer: the first refusal that is earned, or none.
-#[derive(Drop)]
+#[derive(Clone, Copy)]
 pub enum Gate {
     Shut(Refusal),
     Passed,

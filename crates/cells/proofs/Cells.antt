@@ -6,7 +6,8 @@ use native.Mathlib.Omega.{arith}
 use lib.Dec.{leb}
 use borrow.Author.Tests.{le-leb, lt-leb, eq-eqb, ne_eqb}
 use Rattle.theory.specs.inside.Costs.{cut, cut_off}
-use Rattle.cells.specs.inside.Cells.{holds_in, pro_of, con_of, goes_on, cell_of, not_state, or_state, and_state}
+use Rattle.cells.specs.inside.Cells.{holds_in, pro_of, con_of, goes_on, cell_of, not_state, or_state}
+use Rattle.cells.specs.inside.Cells.{and_state}
 use Rattle.cells.specs.inside.Cells.{plain_state, stepped, atom_state, held_from}
 use Rattle.cells.specs.declared.State.{State}
 use Rattle.cells.specs.declared.Connective.{Connective}

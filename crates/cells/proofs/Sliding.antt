@@ -1,7 +1,7 @@
 -- What an until stores, and the sum that slides along.
 use mathlib.Core.Path.{◌≡◌, sym, ap, ◌∙◌}
 use mathlib.Core.Bool.{Bool, true, false, true≢false}
-use Prim.Native.Nat.{ℕ, ◌+◌, ◌-◌, min}
+use Prim.Native.Nat.{ℕ, ◌+◌, min}
 use Rattle.theory.specs.inside.Costs.{cut}
 use Rattle.cells.specs.inside.Cells.{cell_of, closed, Slid}
 use Rattle.cells.specs.declared.State.{State}

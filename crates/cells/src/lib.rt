@@ -15,7 +15,7 @@ pub const CUT_OFF: u32 = 4096;
 const HELD_FROM: u16 = 8192;
 
 // Where a loop along a row stands: the verdict, and the prices of trees of either verdict, or 4,096.
-#[derive(Drop)]
+#[derive(Clone, Copy)]
 pub struct State {
     pub holds: bool,
     pub pro: u32,
@@ -23,7 +23,7 @@ pub struct State {
 }
 
 // The kinds whose cells come from their parts' cells at the same position.
-#[derive(Drop)]
+#[derive(Clone, Copy)]
 pub enum Connective {
     Not,
     Or,

@@ -47,7 +47,7 @@ module _ (q : Question) (words : List ℕ) where
       (subst (λ s. Breaks (frame_in q) (claim_in q s ∷ []) (map node_of words) p) (claimed-tree t) b)
 
   judgement-one : {r s : Figures} → Judgement q words r → Judgement q words s → r ≡ s
-  judgement-one (valid v t) (valid w u) = ap (λ k. verdict_with k 0) (sym (claimed-tree t) ∙ claimed-tree u)
+  judgement-one (valid v t) (valid w u) = let same : v ≡ w = sym (claimed-tree t) ∙ claimed-tree u in cc
   judgement-one (valid v t) (broken p b) = absurd (not-both t b)
   judgement-one (broken p b) (valid v t) = absurd (not-both t b)
   judgement-one (broken p b) (broken o d) = ap broken_at (breaks-one b d)

@@ -51,7 +51,8 @@ module _ (q : Question) (words : List ℕ) (passed : AllPass (question_tests q))
 
       pub judged-bad : (p : ℕ) → Walks (frame_in q) (claim_in q v) nodes 0 (Bad p)
           → Checked q words (broken_at p)
-      judged-bad p w = breaking p (subst (Breaks (frame_in q) (claim_in q v ∷ []) nodes) (sub-zero p) (w.2 []))
+      judged-bad p w = breaking p
+          (subst (Breaks (frame_in q) (claim_in q v ∷ []) nodes) (sub-zero p) (w.2 []))
 
       pub judged-over : (k : ℕ) → Walks (frame_in q) (claim_in q v) nodes 0 (Next k) → k < length words
           → Checked q words (broken_at k)

@@ -16,7 +16,8 @@ use Rattle.asking.specs.Questions.{Question, frame_in, claim_in, check_tests}
 pub data Judgement (q : Question) (words : List ℕ) : Figures → Type 0 where
   valid : (v : Verdict) → Tree (frame_in q) (claim_in q v) (map node_of words)
       → Judgement q words (verdict_with v 0)
-  broken : (p : ℕ) → Breaks (frame_in q) (claim_in q (claimed_by (get_or words 0 0)) ∷ []) (map node_of words) p
+  broken : (p : ℕ)
+      → Breaks (frame_in q) (claim_in q (claimed_by (get_or words 0 0)) ∷ []) (map node_of words) p
       → Judgement q words (broken_at p)
 
 pub data Checked (q : Question) (words : List ℕ) (r : Figures) : Type 0 where

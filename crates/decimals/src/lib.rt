@@ -10,7 +10,7 @@ pub const COMMA: u8 = 44;
 pub const NEWLINE: u8 = 10;
 
 // A number and the place behind it.
-#[derive(Drop)]
+#[derive(Clone, Copy)]
 pub enum Numeral {
     Wrong,
     Read(u32, usize),

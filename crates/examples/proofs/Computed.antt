@@ -14,7 +14,8 @@ use Rattle.trees.specs.Least.{Cost, ones}
 use Rattle.theory.proofs.Horizon.{ones-atoms}
 use Rattle.theory.proofs.Windowed.{repeats-windowed}
 use Rattle.theory.proofs.Sound.{repeats-lawful}
-use Rattle.cells.specs.inside.Cells.{pro_of, con_of, cell_of, atom_cell, not_state, or_state, and_state, since_cell}
+use Rattle.cells.specs.inside.Cells.{pro_of, con_of, cell_of, atom_cell, not_state, or_state, and_state}
+use Rattle.cells.specs.inside.Cells.{since_cell}
 use Rattle.cells.specs.inside.Cells.{closed, until_cell}
 use Rattle.cells.specs.inside.Meant.{CellFor}
 use Rattle.cells.proofs.Meant.{since-cell, until-cell}

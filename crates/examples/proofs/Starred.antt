@@ -19,7 +19,8 @@ use Rattle.theory.proofs.Sound.{sound, schedule-lawful}
 use Rattle.theory.proofs.LeastExists.{schedule-least-exists}
 use Rattle.trees.proofs.Order.{cost-ones}
 use Rattle.theory.proofs.Prices.{price-verdict, price-least}
-use Rattle.cells.specs.inside.Cells.{holds_in, pro_of, con_of, cell_of, atom_state, atom_cell, not_state, goes_on}
+use Rattle.cells.specs.inside.Cells.{holds_in, pro_of, con_of, cell_of, atom_state, atom_cell, not_state}
+use Rattle.cells.specs.inside.Cells.{goes_on}
 use Rattle.cells.specs.inside.Cells.{stepped, since_state, since_cell, until_state, closed, until_cell}
 use Rattle.asking.specs.Questions.{Question, word_in, frame_in, formula_in, claim_in}
 use Rattle.examples.specs.Starred.{Row, starred, Kept, Every, nothing, also}
@@ -78,7 +79,8 @@ all-kept (row ∷ rows) e =
     also (passes_kept row both.0) (all-kept rows both.1)
 
 starred-pass : all_pass starred ≡ true
-unfolding formula_of entry_of entry_from pair_of is_alone are_earlier holds_in pro_of con_of cell_of atom_state atom_cell
+unfolding formula_of entry_of entry_from pair_of is_alone are_earlier holds_in pro_of con_of cell_of
+    atom_state atom_cell
     not_state goes_on stepped since_state since_cell until_state closed until_cell
 starred-pass = refl
 

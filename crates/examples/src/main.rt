@@ -4,6 +4,8 @@
 
 mod views;
 
-fn main() {
-    views::views();
+use std::io;
+
+fn main(rt: HostRuntime) -> io::Result<()> {
+    views::views(&rt)
 }

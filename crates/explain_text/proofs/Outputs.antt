@@ -95,7 +95,8 @@ module _ {text work tree out out_left : List ℕ} {r : ℕ} where
   output-long lt = placed-as (λ bs t. Explained.long lt refl refl t)
 
   pub output-wrong : {line_of : ℕ} → length text ≤ max_text → WrongLine text line_of
-      → Placed (WrongText line_of) 0 out out_left r → Placed (Output text work work tree tree) 0 out out_left r
+      → Placed (WrongText line_of) 0 out out_left r
+      → Placed (Output text work work tree tree) 0 out out_left r
   output-wrong {line_of} le w = placed-as (λ bs t. Explained.wrong line_of le w refl refl t)
 
 -- The answer to the question that was read, from the lists that were kept.

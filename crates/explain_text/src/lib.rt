@@ -57,16 +57,3 @@ pub fn explain(
     );
     rendering::rendered(out, outcome, tree)
 }
-
-#[unsafe(no_mangle)]
-pub extern "C" fn chickvessel_explain(
-    text: &[u8],
-    work: &mut [u16; WORK_LENGTH],
-    tree: &mut [u32; MAX_WORDS],
-    out: &mut [u8; MAX_OUTPUT],
-) -> usize
-    ensures { Explained text.now work.old work.new tree.old
-        tree.new out.old out.new result }
-{
-    explain(text, work, tree, out)
-}

@@ -35,7 +35,8 @@ module _ (q : Question) where
 
   meaning-verdict : {r : Figures} → Meaning q r → (v : Verdict) → r.verdict ≡ sign_of v
       → Means (word_in q) (claim_in q v)
-  meaning-verdict (meant w m) v e = subst (λ k. Means (word_in q) (claim_in q k)) (sign-one {a = w} {b = v} e) m
+  meaning-verdict (meant w m) v e = subst (λ k. Means (word_in q) (claim_in q k)) (sign-one {a = w} {b = v} e)
+      m
 
   module _ (work : List ℕ) where
     pub truth-one : (left left' : List ℕ) (r s : Figures) → Told q work left r → Told q work left' s

@@ -65,7 +65,8 @@ module _ (q : Question) {cell : ℕ} (c : CellIn q cell) where
     pub cell-large : max_words < cell_price cell → AllLarge q
     cell-large over =
         let cut-size : cell_price cell ≡ cut_off = omega (arith, over, (cell-price q c).top) in
-        let large = subst (Price ones (frame_in q) (claim_in q (verdict_in cell))) cut-size (cell-price q c) in
+        let large = subst (Price ones (frame_in q) (claim_in q (verdict_in cell))) cut-size
+        (cell-price q c) in
         record { large = λ s vs t. omega (arith, price-large law large (cell-means q c) t, cost-ones vs) }
 
     -- else it is the least tree's, and so is the verdict

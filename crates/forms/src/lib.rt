@@ -5,7 +5,7 @@ ghost use Rattle.std.specs.Prelude.{◌≡◌, ◌≤◌};
 ghost use Rattle.forms.specs.inside.Forms.{form_from, form_of};
 
 // A word by its rule: what its fields say, or that its form fits no rule.
-#[derive(Drop)]
+#[derive(Clone, Copy)]
 pub enum Form {
     AtomForm(usize, usize, usize),
     PlainForm(usize),

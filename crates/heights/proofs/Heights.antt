@@ -66,7 +66,8 @@ parts_below s e (Two op l r) h = (h.0, h.1, adds-small s op)
 parts_below s e Broken h = tt
 
 module _ (s : Side) (table : List ℕ) (e : ℕ) where
-  height-descends : height s (formula_of table e) ≡ descended s (formula_of table) (parts_of s (entry_at table e))
+  height-descends : height s (formula_of table e)
+      ≡ descended s (formula_of table) (parts_of s (entry_at table e))
   height-descends =
       ap (height s) (formula-unrolls table e) ∙ build-height s (formula_of table) (entry_at table e)
 
@@ -74,7 +75,8 @@ module _ (s : Side) (table : List ℕ) (e : ℕ) where
   height-leaf p = sym (height-descends ∙ ap (descended s (formula_of table)) p)
 
   pub height-down : (l r a : ℕ) → parts_of s (entry_at table e) ≡ Down l r a
-      → max (height s (formula_of table l)) (height s (formula_of table r)) + a ≡ height s (formula_of table e)
+      → max (height s (formula_of table l)) (height s (formula_of table r)) + a
+      ≡ height s (formula_of table e)
   height-down l r a p = sym (height-descends ∙ ap (descended s (formula_of table)) p)
 
   pub down-below : (l r a : ℕ) → parts_of s (entry_at table e) ≡ Down l r a → (l < e) × (r < e) × (a ≤ 1)
@@ -98,7 +100,8 @@ height_bound s table e = height-bound-below (suc e) s table e (le_refl (suc e))
 
 -- what the routine returns where both parts are one entry, and where they are two
 module _ (s : Side) (table : List ℕ) (e l r a : ℕ) (down : parts_of s (entry_at table e) ≡ Down l r a) where
-  pub height-once : (x : ℕ) → l ≡ r → x ≡ height s (formula_of table l) → x + a ≡ height s (formula_of table e)
+  pub height-once : (x : ℕ) → l ≡ r → x ≡ height s (formula_of table l)
+      → x + a ≡ height s (formula_of table e)
   height-once x lr p =
       let q : height s (formula_of table r) ≡ height s (formula_of table l)
       = ap (λ k. height s (formula_of table k)) (sym lr) in

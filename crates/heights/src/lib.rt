@@ -41,7 +41,7 @@ fn adds(op: Binary, side: Side) -> usize
 }
 
 // Where a height is followed down: two parts and what the entry adds to the greater.
-#[derive(Drop)]
+#[derive(Clone, Copy)]
 enum Descent {
     Leaf,
     Down(usize, usize, usize),

@@ -60,7 +60,8 @@ module _ {max at next n : ℕ} {text : List ℕ} (le : n ≤ max) (s : Stands te
   newline-ends : get_or text next 0 ≡ 10 → Ended (Commas max) (drop at text) (n ∷ []) (drop (next + 1) text)
   newline-ends e = record { bytes = slice at next text; list = last s.digits le; whole = cut 10 e }
 
-  comma-forth : get_or text next 0 ≡ 44 → (ns rest : List ℕ) → Ended (Commas max) (drop (next + 1) text) ns rest
+  comma-forth : get_or text next 0 ≡ 44 → (ns rest : List ℕ)
+      → Ended (Commas max) (drop (next + 1) text) ns rest
       → Ended (Commas max) (drop at text) (n ∷ ns) rest
   comma-forth e ns rest ended = record {
     bytes = slice at next text ++ 44 ∷ ended.bytes;
@@ -139,7 +140,8 @@ module _ {max from : ℕ} {text found : List ℕ} where
         keeps-more : then ≡ put 0 (take (length found) (g.numbers ++ n ∷ [])) found
         keeps-more = stored ∙ (λ i. set (g.keeps i) (g.counted i) n) ∙ kept_more found g.numbers n
 
-        pub go-done : get_or text next 0 ≡ 10 → Listed (Commas max) text from found then (count + 1) (next + 1)
+        pub go-done : get_or text next 0 ≡ 10
+            → Listed (Commas max) text from found then (count + 1) (next + 1)
         go-done e = record {
           numbers = g.numbers ++ n ∷ [];
           ended = g.forth (n ∷ []) (drop (next + 1) text) (newline-ends r.1 r.2 lt e);

@@ -8,7 +8,7 @@ ghost use Rattle.lists.specs.inside.Lists.{Keyword, Worded, Lists};
 use decimals::{COMMA, NEWLINE, Numeral, number};
 
 // How many numbers a list has, and the place behind its newline.
-#[derive(Drop)]
+#[derive(Clone, Copy)]
 pub enum Listing {
     Wrong,
     Read(usize, usize),

@@ -15,7 +15,7 @@ use rows::ROW_LENGTH;
 use trees::Verdict;
 
 // What truth and find answer from: a refusal, or the cell of the question.
-#[derive(Drop)]
+#[derive(Clone, Copy)]
 pub enum Look {
     Refused(Refusal),
     Cell(u16),

@@ -59,7 +59,8 @@ module _ (table : List ℕ) (e i : ℕ) (s : Verdict) where
   -- formula and the needed verdict
   pub at-kind : (k : ℕ) (t : Verdict) (P : Formula → Verdict → Type 0) → fits_of k (entry_at table e) s ≡ true
       → rule_sign k ≡ sign_of t
-      → P (by_kind (rule_kind k) (formula_of table) (left_of (entry_at table e)) (right_of (entry_at table e))) t
+      → P (by_kind (rule_kind k) (formula_of table) (left_of (entry_at table e))
+      (right_of (entry_at table e))) t
       → P (formula_of table e) s
   at-kind k t P h se p =
       let says = fits-says k (entry_at table e) s h in

@@ -49,7 +49,8 @@ module _ (letter : ℕ → ℕ) (u v : ℕ) (table : List ℕ) (e i : ℕ) (s : 
   module _ (k : ℕ) (h : fits_of k (entry_at table e) s ≡ true) (first place member from : ℕ) where
     ruled : (t : Verdict) → rule_sign k ≡ sign_of t
         → Rule frame
-        (claim (by_kind (rule_kind k) (formula_of table) (left_of (entry_at table e)) (right_of (entry_at table e)))
+        (claim (by_kind (rule_kind k) (formula_of table) (left_of (entry_at table e))
+        (right_of (entry_at table e)))
         i t)
         (node k 0 n) (claims_of table (list_demands k first place member from n t))
         → Rule frame (claim (formula_of table e) i s) (node k 0 n)

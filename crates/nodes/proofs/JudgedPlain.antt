@@ -27,7 +27,8 @@ module _ (frame : Frame) (table : List ℕ) (e i : ℕ) (s : Verdict) where
   Right k = fits_of k (entry_at table e) s ≡ true → Asks frame table e i s (node k 0 0) (demands k s)
 
   -- a part that is the left or the right one, and a second one only for an entry of two
-  near : (k : ℕ) → first_of (entry_at table e) k < e → (0 < rule_fixed k - 1 → right_of (entry_at table e) < e)
+  near : (k : ℕ) → first_of (entry_at table e) k < e
+      → (0 < rule_fixed k - 1 → right_of (entry_at table e) < e)
       → rule_fixed k ≤ 2 → Earlier e i (demands k s)
   unfolding plain_demands
   near k first second two = record {
@@ -41,7 +42,8 @@ module _ (frame : Frame) (table : List ℕ) (e i : ℕ) (s : Verdict) where
   module _ (k : ℕ) (h : fits_of k (entry_at table e) s ≡ true) where
     ruled : (t : Verdict) → rule_sign k ≡ sign_of t
         → Rule frame
-        (claim (by_kind (rule_kind k) (formula_of table) (left_of (entry_at table e)) (right_of (entry_at table e)))
+        (claim (by_kind (rule_kind k) (formula_of table) (left_of (entry_at table e))
+        (right_of (entry_at table e)))
         i t)
         (node k 0 0) (claims_of table (demands k t))
         → Rule frame (claim (formula_of table e) i s) (node k 0 0) (claims_of table (demands k s))

@@ -36,7 +36,8 @@ built part Broken = refl
 
 -- The formula of an entry whose kind is k. At a numeral it computes to the kind's own form.
 pub formula-kind : (table : List ℕ) (e k : ℕ) → kind_of (entry_at table e) ≡ k
-    → formula_of table e ≡ by_kind k (formula_of table) (left_of (entry_at table e)) (right_of (entry_at table e))
+    → formula_of table e
+    ≡ by_kind k (formula_of table) (left_of (entry_at table e)) (right_of (entry_at table e))
 formula-kind table e k p =
     formula-unrolls table e
     ∙ built (formula_of table) (entry_at table e)

@@ -76,7 +76,8 @@ module _ (letter : ℕ) (x : Entry) (i : ℕ) (s : Verdict) (r a n : ℕ) where
 -- A rule of 11 to 16: which counts it allows, and what it asks then.
 module _ (r l t i n w : ℕ) (s : Verdict) where
   pub count-11 : r ≡ 11
-      → (leb n i ≡ count_fits r i n w) × (list_demands r t (i - n) l (i - n + 1) n s ≡ count_demands r l t i n s)
+      → (leb n i ≡ count_fits r i n w)
+      × (list_demands r t (i - n) l (i - n + 1) n s ≡ count_demands r l t i n s)
   unfolding count_fits count_demands
   count-11 e = (simp (eq-eqb r 11 e), simp (eq-eqb r 11 e))
 

@@ -22,7 +22,7 @@ use trees::{Verdict, kind, sign, sign_of};
 
 // What a node's parts have to prove, all of one verdict: a fixed part or none,
 // and then the members of a list at rising positions.
-#[derive(Drop)]
+#[derive(Clone, Copy)]
 pub struct Demands {
     pub fixed: usize,
     pub first: usize,
@@ -33,7 +33,7 @@ pub struct Demands {
     pub verdict: Verdict,
 }
 
-#[derive(Drop)]
+#[derive(Clone, Copy)]
 pub struct Part {
     pub entry: usize,
     pub position: usize,
@@ -84,6 +84,7 @@ fn within(low: usize, high: usize, n: usize) -> bool
 }
 
 // Kind, then sign.
+#[tactic(auto, unfolding(crate::specs::inside::Fits::fits_of))]
 fn suits(rule: usize, here: Entry, needed: Verdict) -> bool
     requires { (1 ≤ rule) × (rule ≤ 16) }
     ensures { result ≡ fits_of rule here needed }
@@ -92,6 +93,7 @@ fn suits(rule: usize, here: Entry, needed: Verdict) -> bool
 }
 
 // Rules 1 and 2: kind with the atom's number, sign, position, letter.
+#[tactic(auto, unfolding(crate::specs::inside::Fits::atom_fits))]
 fn atom_fits(
     letter: u32,
     here: Entry,
@@ -117,6 +119,7 @@ fn atom_fits(
 }
 
 // Rules 11 to 16: whether the count is allowed at the position. The window is rule 16's count.
+#[tactic(auto, unfolding(crate::specs::inside::Fits::count_fits))]
 fn count_fits(rule: usize, position: usize, n: usize, window: usize) -> bool
     requires { (11 ≤ rule) × (rule ≤ 16) × (position < 2 ^ 40) }
     ensures { result ≡ count_fits rule position n window }
@@ -145,6 +148,7 @@ fn window(u: usize, v: usize, table: &[u32], right: usize, position: usize, rule
 }
 
 // Rules 11 to 16: kind, sign, count.
+#[tactic(auto, unfolding(crate::specs::inside::Fits::list_fits))]
 fn list_fits(
     u: usize,
     v: usize,

@@ -41,6 +41,7 @@ fn part_verdict(needed: Verdict, rule: usize) -> Verdict
 }
 
 // Rules 3 to 10: what the parts have to prove.
+#[tactic(auto, unfolding(nodes::specs::inside::Demands::plain_demands))]
 fn plain_demands(here: Entry, position: usize, verdict: Verdict, rule: usize) -> Demands
     requires { (3 ≤ rule) × (rule ≤ 10) }
     ensures { result ≡ plain_demands here position verdict rule }
@@ -81,6 +82,7 @@ fn list_demands(
 }
 
 // Rules 11 to 16: what the parts have to prove.
+#[tactic(auto, unfolding(nodes::specs::inside::Demands::count_demands))]
 fn count_demands(
     rule: usize,
     left: usize,
@@ -120,6 +122,7 @@ fn count_demands(
 
 // What the parts of a node of rules 3 to 16 have to prove, by its rule and its number,
 // where it is known that a rule fits it.
+#[tactic(auto, unfolding(nodes::specs::inside::Demands::demands_of))]
 pub fn demands_of(here: Entry, position: usize, verdict: Verdict, rule: usize, n: usize) -> Demands
     requires { (3 ≤ rule) × Countable rule position n }
     ensures { result ≡ demands_of here position verdict rule n }
@@ -131,6 +134,7 @@ pub fn demands_of(here: Entry, position: usize, verdict: Verdict, rule: usize, n
 }
 
 // The part that stands at a place in tree order.
+#[tactic(auto, unfolding(nodes::specs::inside::Demands::part_of))]
 pub fn part_at(demands: Demands, m: usize) -> Part
     requires { (m < demands.fixed + demands.count) × (demands.from + demands.count < 2 ^ 63) }
     ensures { result ≡ part_of demands m }

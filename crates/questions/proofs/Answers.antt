@@ -183,7 +183,8 @@ module _ {text ns ms : List ℕ} {at : ℕ} {found now : List ℕ} {r : Entries}
         (drop_of_length-le text le)
         ∙ append-nil ((upto-entries u a).front ++ line_of ask_key k.ended.list.fields))) asked
 
-pub reads-refused : {text prefix_found prefix_now loop_found loop_now table_found table_now : List ℕ} {r : TextRead}
+pub reads-refused : {text prefix_found prefix_now loop_found loop_now table_found table_now : List ℕ}
+    {r : TextRead}
     {n : ℕ}
     → r ≡ record { wrong = true; line = n; prefix = 0; looped = 0; entries = 0; entry = 0; position = 0 }
     → WrongLine text n → QuestionRead text prefix_found prefix_now loop_found loop_now table_found table_now r
@@ -220,7 +221,8 @@ pub reads_whole : {text prefix_found prefix_now loop_found loop_now table_found 
       entry = entry;
       position = position;
     })
-reads_whole {prefix_found} {prefix_now} {loop_found} {loop_now} {table_found} {table_now} p l t first second all k
+reads_whole {prefix_found} {prefix_now} {loop_found} {loop_now} {table_found} {table_now} p l t first second
+    all k
     over = record {
       understood = λ _. record {
         says = said first.numbers second.numbers all.words;

@@ -2,7 +2,7 @@
 use mathlib.Core.Path.{◌≡◌, refl, sym, ap, subst, ◌∙◌}
 use mathlib.Core.Logic.{by_cases}
 use mathlib.Core.List.{List, [], ◌++◌, append_assoc, append-nil, cons-ne-nil}
-use Prim.Native.Nat.{ℕ, suc, ◌+◌, ◌<◌}
+use Prim.Native.Nat.{ℕ, suc, ◌<◌}
 use native.Mathlib.Decide.{dec_lt}
 use native.Mathlib.Omega.{arith}
 use lib.ListN.{get_or}

@@ -11,21 +11,21 @@ ghost use Rattle.questions.specs.inside.Questions.{QuestionRead};
 use lists::{Listing, fields, letters, store};
 
 // An entry's word, and the place behind its line.
-#[derive(Drop)]
+#[derive(Clone, Copy)]
 pub enum Entered {
     NoEntry,
     EntryAt(u32, usize),
 }
 
 // The entry and the position asked, and the place behind the line.
-#[derive(Drop)]
+#[derive(Clone, Copy)]
 pub enum AskedLine {
     NotAsked,
     AskedAt(usize, usize, usize),
 }
 
 // How many lines of entries stand together, and the place behind them.
-#[derive(Drop)]
+#[derive(Clone, Copy)]
 pub struct Entries {
     pub count: usize,
     pub next: usize,
@@ -33,7 +33,7 @@ pub struct Entries {
 
 // What a text says: the first wrong line, or how many letters and entries it has,
 // even those not kept, and what it asks.
-#[derive(Drop)]
+#[derive(Clone, Copy)]
 pub struct TextRead {
     pub wrong: bool,
     pub line: usize,

@@ -30,7 +30,8 @@ sign-is Holds = omega arith
 sign-is Violated = omega arith
 
 -- What is no refusal has a verdict.
-verdict-is : (o : Outcome) → (figures_of o).number ≡ 0 → (1 ≤ (figures_of o).verdict) × ((figures_of o).verdict ≤ 2)
+verdict-is : (o : Outcome)
+    → (figures_of o).number ≡ 0 → (1 ≤ (figures_of o).verdict) × ((figures_of o).verdict ≤ 2)
 verdict-is (Refused x) e = absurd (omega (arith, e, (refusal-number x).0))
 verdict-is (NotValid p) e = absurd (omega (arith, e))
 verdict-is (Judged v n) e = sign-is v

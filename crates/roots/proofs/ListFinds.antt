@@ -124,7 +124,8 @@ module _ {cost : Cost} {weight : ℕ → ℕ} (by-atoms : ByAtoms cost weight) {
       let in-it = near.ahead refl in
       list-found 14 n false
       (first_ends w.lawful (w.exists cost) l priced small _ _ true 14 n (by-atoms.other 14 (omega arith))
-      (λ k h. held-until i (row_of work left) (row_of work right) k (λ j le. ca j (omega (arith, in-it, h, le)))
+      (λ k h. held-until i (row_of work left) (row_of work right) k
+      (λ j le. ca j (omega (arith, in-it, h, le)))
       (λ j le. cb j (omega (arith, in-it, h, le))))
       (ahead-right Holds n in-it) (λ k h. ahead-left Holds k (omega (arith, in-it, h))) refl)
       (λ e. absurd (false≢true (sym e))) (omega (arith, in-it, column))

@@ -30,7 +30,8 @@ module _ (work : List ℕ) (left right i : ℕ) (ahead : Bool) (price : ℕ) whe
       (record { met = met; scanned = s; is = refl })
 
   module _ {held : Bool} (rule : ℕ) (met : Met) (h : held ≡ false)
-      (s : Scanned (prices_from (row_of work left) false ahead i) (prices_from (row_of work right) false ahead i)
+      (s : Scanned (prices_from (row_of work left) false ahead i)
+      (prices_from (row_of work right) false ahead i)
       false price met) where
     pub root-alone : met.alone ≡ true
         → ListRoot work left right i held ahead price rule (root_with (rule + 2) 0 met.count)

@@ -12,7 +12,7 @@ use rows::ROW_LENGTH;
 use rules::{Binary, Entry};
 use scans::scan;
 
-#[derive(Drop)]
+#[derive(Clone, Copy)]
 pub struct Root {
     pub rule: usize,
     pub atom: usize,

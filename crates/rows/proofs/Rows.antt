@@ -9,7 +9,8 @@ use native.Mathlib.Decide.{dec_lt}
 use native.Mathlib.Numerals.{add-one}
 use lib.ListN.{length, length-set, get_or, set}
 use lib.Seq.{get_or-set_same, get_or-set_other}
-use Rattle.cells.specs.inside.Cells.{cell_of, plain_state, plain_cell, stepped, since_state, since_cell, atom_state}
+use Rattle.cells.specs.inside.Cells.{cell_of, plain_state, plain_cell, stepped, since_state, since_cell}
+use Rattle.cells.specs.inside.Cells.{atom_state}
 use Rattle.cells.specs.inside.Cells.{atom_cell}
 use Rattle.rows.specs.inside.Rows.{row_of, RowReady, Filled, row_length}
 use Rattle.cells.specs.declared.State.{State}
@@ -141,10 +142,12 @@ module _ (row left right cols : ℕ) (found : List ℕ) where
       (since_state (row_of found left) (row_of found right) p) found work x
       → p < cols → y ≡ stepped x (row_of work left p) (row_of work right p) → v ≡ cell_of y
       → Running row 0 (p + 1) cols (since_cell (row_of found left) (row_of found right))
-      (since_state (row_of found left) (row_of found right) (p + 1)) found (set work (row * row_length + p) v) y
+      (since_state (row_of found left) (row_of found right) (p + 1)) found (set work (row * row_length + p) v)
+      y
   unfolding since_state since_cell
   since-turn {p = p} ready run lt ey ev =
-      running-up ready run lt ey ev (ap (since_state (row_of found left) (row_of found right)) (sym (add-one p)))
+      running-up ready run lt ey ev
+      (ap (since_state (row_of found left) (row_of found right)) (sym (add-one p)))
       (ap (λ e. cell_of (since_state (row_of found left) (row_of found right) e)) (add-one p))
 
 -- the plain kinds, a turn
@@ -167,7 +170,8 @@ plain_turn kind {left = left} {right} {p = p} {v} {found} {work} ready part lt e
 
 -- an atom, a turn
 pub atom-turn : (word : ℕ → ℕ) (atom : ℕ) {row cols p v n : ℕ} {found work : List ℕ}
-    → work_length ≤ length found → row < 32 → cols ≤ row_length → Partly row 0 p (atom_cell word atom) found work
+    → work_length ≤ length found → row < 32 → cols ≤ row_length
+    → Partly row 0 p (atom_cell word atom) found work
     → p < cols → n ≡ word p → v ≡ cell_of (atom_state (n / 2 ^ atom % 2))
     → Partly row 0 (p + 1) (atom_cell word atom) found (set work (row * row_length + p) v)
 unfolding atom_cell

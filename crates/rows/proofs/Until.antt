@@ -69,7 +69,8 @@ module _ (a b : ℕ → ℕ) (top : ℕ) where
 
 pub runs_done : (a b : ℕ → ℕ) (cols lap d : ℕ) (x : State) (sum : ℕ) → RunsIn a b (cols + lap) d x sum
     → d ≤ lap → lap ≤ d
-    → (x ≡ until_state a b (cols + lap) lap) × (sum ≡ sum_run (λ q. con_of (b q)) cols lap) × (sum ≤ 65535 * lap)
+    → (x ≡ until_state a b (cols + lap) lap) × (sum ≡ sum_run (λ q. con_of (b q)) cols lap)
+    × (sum ≤ 65535 * lap)
 runs_done a b cols lap d x sum r le ge =
     let e : d ≡ lap = omega arith in
     let z : cols + lap - lap ≡ cols = omega arith in (
@@ -85,7 +86,8 @@ count lap start p = max p start + lap - p
 
 cell-is : (a b : ℕ → ℕ) (cols lap start p : ℕ)
     → cell_of
-    (closed (until_state a b (cols + lap) (cols + lap - p)) (sum_run (λ q. con_of (b q)) p (count lap start p)))
+    (closed (until_state a b (cols + lap) (cols + lap - p))
+    (sum_run (λ q. con_of (b q)) p (count lap start p)))
     ≡ until_cell a b cols lap start p
 unfolding until_cell
 cell-is a b cols lap start p = refl
@@ -232,7 +234,8 @@ module _ (row left right cols lap start : ℕ) (found : List ℕ) where
         ∙ ap (λ l. stepped (until_state (row_of found left) (row_of found right) (cols + lap) d) l
         (row_of here right p))
         (left-same p (omega (arith, p-low)))
-        ∙ ap (stepped (until_state (row_of found left) (row_of found right) (cols + lap) d) (row_of found left p))
+        ∙ ap (stepped (until_state (row_of found left) (row_of found right) (cols + lap) d)
+        (row_of found left p))
         (right-same p (omega (arith, p-low)))
         ∙ ap (λ j. stepped (until_state (row_of found left) (row_of found right) (cols + lap) d)
         (row_of found left j) (row_of found right j)) (sym e)
@@ -256,14 +259,16 @@ module _ (row left right cols lap start : ℕ) (found : List ℕ) where
         = omega (arith, f.same_length, ready.room, ready.row_below, p-low) in
         let value : v ≡ until_cell (row_of found left) (row_of found right) cols lap start p
         = ve ∙ ap (λ z. cell_of (closed z r)) (ye ∙ state-next)
-        ∙ ap (λ z. cell_of (closed (until_state (row_of found left) (row_of found right) (cols + lap) (d + 1)) z))
+        ∙ ap (λ z. cell_of
+        (closed (until_state (row_of found left) (row_of found right) (cols + lap) (d + 1)) z))
         (sums_next r s)
         ∙ cell_at back in
         record {
           low = omega (arith, f.low);
           high = omega arith;
           state = ye ∙ state-next;
-          sums = sums_next r s ∙ ap (λ q. sum_run (λ q. con_of (row_of found right q)) q (count lap start q)) e;
+          sums = sums_next r s
+              ∙ ap (λ q. sum_run (λ q. con_of (row_of found right q)) q (count lap start q)) e;
           bound = omega (arith, f.bound);
           same_length = length-set here (row * row_length + p) v ∙ f.same_length;
           cells = λ q ge below. by_cases (dec_le (suc p) q)

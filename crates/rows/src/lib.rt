@@ -4,7 +4,8 @@
 ghost use Rattle.std.specs.Prelude.{◌≡◌, ◌+◌, ◌*◌, ◌<◌, ◌≤◌, length};
 ghost use Rattle.schedule.specs.Letters.{letter_at};
 ghost use Rattle.theory.specs.inside.RunCosts.{sum_run};
-ghost use Rattle.cells.specs.inside.Cells.{con_of, plain_cell, since_cell, until_state, until_cell, atom_cell};
+ghost use Rattle.cells.specs.inside.Cells.{con_of, plain_cell, since_cell, until_state, until_cell};
+ghost use Rattle.cells.specs.inside.Cells.{atom_cell};
 ghost use Rattle.rows.specs.inside.Rows.{row_of, RowReady, Filled, row_length};
 ghost use Rattle.schedule.specs.Limits.{work_length, max_entries};
 
@@ -60,7 +61,7 @@ pub fn plain_row(
 }
 
 // Where the loop of an until stands: its state, and the sum of `con` over rule 16's window.
-#[derive(Drop)]
+#[derive(Clone, Copy)]
 pub struct Carried {
     pub state: State,
     pub sum: u32,

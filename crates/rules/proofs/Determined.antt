@@ -19,5 +19,6 @@ table-read-one list r s p q = equal-one p q
 pub keeps-one : (table : List ℕ) (r s : Bool) → r ≡ keeps_all table → s ≡ keeps_all table → r ≡ s
 keeps-one table r s p q = equal-one p q
 
-pub entry-at-one : (table : List ℕ) (e : ℕ) (a b : Entry) → a ≡ entry_at table e → b ≡ entry_at table e → a ≡ b
+pub entry-at-one : (table : List ℕ) (e : ℕ) (a b : Entry) → a ≡ entry_at table e → b ≡ entry_at table e
+    → a ≡ b
 entry-at-one table e a b p q = equal-one p q

@@ -1,7 +1,7 @@
 -- The kind table's rows, a law a return; what an entry is, by its operator;
 -- and its parts are earlier entries.
 use mathlib.Core.Path.{◌≡◌, refl, ap, ◌∙◌}
-use mathlib.Core.Bool.{Bool, true, false, cond, ◌&&◌, false≢true}
+use mathlib.Core.Bool.{Bool, true, false, cond, ◌&&◌}
 use Prim.Native.Nat.{ℕ, ◌/◌, ◌%◌, ◌<◌, ◌≤◌}
 use native.Mathlib.Omega.{arith}
 use lib.Dec.{eqb, ltb, leb}

@@ -16,6 +16,7 @@ pub keeps-exact : (table : List ℕ)
 unfolding keeps_all
 keeps-exact table = all-exact (kept_at table) (length table)
 
-pub low-exact : (table : List ℕ) → (low_all table ≡ true) ↔ ((e : ℕ) → e < length table → low_at table e ≡ true)
+pub low-exact : (table : List ℕ)
+    → (low_all table ≡ true) ↔ ((e : ℕ) → e < length table → low_at table e ≡ true)
 unfolding low_all
 low-exact table = all-exact (low_at table) (length table)

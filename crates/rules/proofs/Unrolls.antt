@@ -28,7 +28,8 @@ enough (suc n) (suc m) table e en em =
     (lt_of_lt_of_le lt (le_of_suc-le-suc em)))
     (entry_at table e) (parts-earlier e (get_or table e 0))
 
-pub formula-unrolls : (table : List ℕ) (e : ℕ) → formula_of table e ≡ build (formula_of table) (entry_at table e)
+pub formula-unrolls : (table : List ℕ) (e : ℕ)
+    → formula_of table e ≡ build (formula_of table) (entry_at table e)
 unfolding formula_of
 formula-unrolls table e =
     build-cong e (unrolled e table) (λ p. unrolled (suc p) table p)

@@ -12,14 +12,14 @@ use schedule::Schedule;
 // Atoms of a letter: its bits.
 const ATOMS: usize = 32;
 
-#[derive(Drop)]
+#[derive(Clone, Copy)]
 pub enum Side {
     Past,
     Future,
 }
 
 // What a word of a table says at its place: an atom, or an operator and its parts.
-#[derive(Drop)]
+#[derive(Clone, Copy)]
 pub enum Entry {
     Atom(usize),
     One(Unary, usize),
@@ -28,13 +28,13 @@ pub enum Entry {
 }
 
 // The operators of one part.
-#[derive(Drop)]
+#[derive(Clone, Copy)]
 pub enum Unary {
     Not,
 }
 
 // The operators of two parts.
-#[derive(Drop)]
+#[derive(Clone, Copy)]
 pub enum Binary {
     Or,
     And,

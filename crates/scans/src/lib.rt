@@ -12,7 +12,7 @@ use rows::ROW_LENGTH;
 
 // Where a scan ends: how many members the list has, and whether it stands
 // alone, with no first part before it.
-#[derive(Drop)]
+#[derive(Clone, Copy)]
 pub struct Met {
     pub count: usize,
     pub alone: bool,

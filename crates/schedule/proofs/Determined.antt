@@ -32,7 +32,8 @@ new-one u v (Ready s) (Ready t) p q = ap Ready (p.1 ∙ sym q.1)
 -- One part of the caller's memory, with one list of letters. (A reference's
 -- ghost name is no part of a result.)
 abbrev Same : Bor (List ℕ) → Bor (List ℕ) → Type 0
-Same part other = (part.now ≡ other.now) × (part.ref_ptr.0 ≡ other.ref_ptr.0) × (part.ref_ptr.1 ≡ other.ref_ptr.1)
+Same part other = (part.now ≡ other.now) × (part.ref_ptr.0 ≡ other.ref_ptr.0)
+    × (part.ref_ptr.1 ≡ other.ref_ptr.1)
 
 rest-one : {lent part other : Bor (List ℕ)} {from : ℕ} → Rest lent from part → Rest lent from other
     → Same part other
@@ -48,7 +49,8 @@ view-one prefix loop part other i w z =
     (λ some. rest-one (w.looping (omega arith) some) (z.looping (omega arith) some))
     (λ none. rest-one (w.nothing (omega arith) (omega arith)) (z.nothing (omega arith) (omega arith))))
 
-pub letter-one : (prefix loop : List ℕ) (i a b : ℕ) → a ≡ letter_at prefix loop i → b ≡ letter_at prefix loop i
+pub letter-one : (prefix loop : List ℕ) (i a b : ℕ) → a ≡ letter_at prefix loop i
+    → b ≡ letter_at prefix loop i
     → a ≡ b
 letter-one prefix loop i a b p q = equal-one p q
 

@@ -21,3 +21,6 @@ module _ (u v : ℕ) where
 
   pub makes-ready : (v ≡ 0 → ⊥) → u + v ≤ max_letters → Makes u v (Ready (record { prefix = u; looped = v }))
   makes-ready ne le = (refusal-0 ne le, refl)
+
+-- what the constructor's cases rest on
+pub ruleset made = (refusal-1, refusal-2, makes-ready)

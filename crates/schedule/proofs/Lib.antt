@@ -3,3 +3,4 @@ pub mod Lengths
 pub mod Letters
 pub mod Determined
 pub mod Buffers
+pub mod Bits

@@ -77,6 +77,7 @@ lacks n (t ∷ ts) = not (eqb t.answer.number n) && lacks n ts
 
 pub lacks-fails : {ts : List Test} {r : Figures} (n : ℕ) → lacks n ts ≡ true → FirstFails ts r → r.number ≡ n
     → ⊥
+lacks-fails {ts = []} n l x e = elim x [ ]
 lacks-fails {ts = t ∷ ts} n l (here f) e =
     false≢true (sym (ap not (eq-eqb t.answer.number n e))
     ∙ (and_both (not (eqb t.answer.number n)) (lacks n ts) l).0)

@@ -14,14 +14,14 @@ pub const MAX_WORDS: usize = 4095;
 pub const WORK_LENGTH: usize = 16384;
 
 // The lengths of a schedule: letters in the prefix, letters in the loop.
-#[derive(Drop)]
+#[derive(Clone, Copy)]
 pub struct Schedule {
     pub prefix: usize,
     pub looped: usize,
 }
 
 // What the constructor answers: the refusal that the lengths earn first, or the schedule.
-#[derive(Drop)]
+#[derive(Clone, Copy)]
 pub enum Made {
     EmptyLoop,
     TooLong,
@@ -36,6 +36,7 @@ impl Schedule {
     pub const MAX_HEIGHT: usize = 5;
 
     // The schedule of two lengths, or the first refusal that they earn.
+    #[tactic(auto, using(crate::proofs::Lengths::made))]
     pub fn new(prefix: usize, looped: usize) -> Made
         ensures { Makes prefix looped result }
     {
@@ -79,6 +80,7 @@ pub fn letter<'a>(prefix: &'a [u32], looped: &'a [u32], position: usize) -> u32
 }
 
 // Bit of an atom in a letter: 1 if the atom holds in it, else 0. A letter has no atom past 31.
+#[tactic(auto, using(crate::proofs::Bits::no_bit))]
 pub fn bit(letter: u32, atom: usize) -> u32
     ensures { result ≡ letter / 2 ^ atom % 2 }
 {

@@ -35,7 +35,8 @@ cols-more reach v f g le =
     let h : max_height - height Future g ≤ max_height - height Future f = omega arith in
     omega (arith, mul-le-mul_left v h)
 
-cols-lap : (reach v : ℕ) (f g : Formula) → height Future f + 1 ≤ height Future g → height Future g ≤ max_height
+cols-lap : (reach v : ℕ) (f g : Formula) → height Future f + 1 ≤ height Future g
+    → height Future g ≤ max_height
     → cols reach v g + v ≤ cols reach v f
 cols-lap reach v f g le low =
     let h : max_height - height Future g + 1 ≤ max_height - height Future f = omega arith in
@@ -53,14 +54,15 @@ module _ {cost : Cost} {frame : Frame} {table : List ℕ} {reach v e : ℕ} {fou
       → Filled e (cols reach v (formula_of table e)) cell found left
       → ((p : ℕ) → p < cols reach v (formula_of table e) → CellFor cost frame (formula_of table e) p (cell p))
       → FilledBelow cost frame table reach v (suc e) left
-  row-filled {left} Near-by short cell f means = record { rows = rows } where
+  row-filled {left} near_by short cell f means = record { rows = rows } where
     rows : (k p : ℕ) → k < suc e → p < cols reach v (formula_of table k)
         → CellFor cost frame (formula_of table k) p (row_of left k p)
     rows k p lt near =
         by_cases (dec_lt k e)
         (λ earlier. subst (CellFor cost frame (formula_of table k) p)
         (sym
-        (f.before (k * row_length + p) (omega (arith, cols-small reach v (formula_of table k) Near-by short))))
+        (f.before (k * row_length + p)
+        (omega (arith, cols-small reach v (formula_of table k) near_by short))))
         (below.rows k p earlier near))
         (λ here. let e' : e ≡ k = omega arith in
         subst (λ j. p < cols reach v (formula_of table j)
@@ -82,7 +84,8 @@ module _ {cost : Cost} {frame : Frame} {table : List ℕ} {reach v e : ℕ} {fou
 -- The cell of an until at a column: its window ends where the lap behind the last column does, at the latest.
 until-at : {cost : Cost} {weight : ℕ → ℕ} → ByAtoms cost weight → {frame : Frame} {u v reach : ℕ}
     → Windowed frame u v reach → u ≤ reach → {f g : Formula} (a b : ℕ → ℕ)
-    → height Past (until f g) + height Future (until f g) ≤ max_height → (p : ℕ) → p < cols reach v (until f g)
+    → height Past (until f g) + height Future (until f g) ≤ max_height → (p : ℕ)
+    → p < cols reach v (until f g)
     → ((k : ℕ) → k < cols reach v (until f g) + v → CellFor cost frame f k (a k))
     → ((k : ℕ) → k < cols reach v (until f g) + v → CellFor cost frame g k (b k))
     → CellFor cost frame (until f g) p (until_cell a b (cols reach v (until f g)) v (u + v * height Past g) p)
@@ -151,7 +154,8 @@ module _ {cost : Cost} {weight : ℕ → ℕ} (by-atoms : ByAtoms cost weight) {
         (part-for below r lr g (omega arith) p near))
 
     pub since-filled : entry_at table e ≡ Two Since l r
-        → Filled e (cols reach v (formula_of table e)) (since_cell (row_of found l) (row_of found r)) found left
+        → Filled e (cols reach v (formula_of table e)) (since_cell (row_of found l) (row_of found r)) found
+        left
         → FilledBelow cost frame table reach v (suc e) left
     unfolding since_cell
     since-filled at f =
@@ -174,7 +178,8 @@ module _ {cost : Cost} {weight : ℕ → ℕ} (by-atoms : ByAtoms cost weight) {
         let start = u + v * height Past (formula_of table r) in
         entry_row (Two Until l r) _ at f
         (λ p near. subst
-        (λ c. CellFor cost frame g p (until_cell (row_of found l) (row_of found r) (cols reach v c) v start p))
+        (λ c. CellFor cost frame g p
+        (until_cell (row_of found l) (row_of found r) (cols reach v c) v start p))
         (sym same)
         (until-at by-atoms w from (row_of found l) (row_of found r) low-until p near
         (λ k lt. lap-for below l ll g (omega arith) (omega (arith, low-until)) k lt)

@@ -118,5 +118,6 @@ pub repeats-complete : {frame : Frame} {u v : ℕ} → Repeats frame.letter u v
 repeats-complete w = complete (decided w)
 
 pub schedule-complete : (prefix loop : List ℕ) → 0 < length loop
-    → (c : Claim) → Means (letter_at prefix loop) c → (ws : List Node) × Tree (schedule_frame prefix loop) c ws
+    → (c : Claim) → Means (letter_at prefix loop) c
+    → (ws : List Node) × Tree (schedule_frame prefix loop) c ws
 schedule-complete prefix loop some = repeats-complete (schedule-repeats prefix loop some)

@@ -51,4 +51,5 @@ module _ {A B : ℕ → Type 0} (decide : (k : ℕ) → Dec (A k)) where
       by_cases (decide i)
       (λ a. further-ahead (λ h. n ((until-unrolled i).0 (inl h)))
       (until-fails m (suc i) (λ w. n ((until-unrolled i).0 (inr (a, w))))))
-      (λ a. cut_ahead i (omega arith) a (λ k ge le h. n ((until-unrolled i).0 (inl (subst B (omega arith) h)))))
+      (λ a. cut_ahead i (omega arith) a
+      (λ k ge le h. n ((until-unrolled i).0 (inl (subst B (omega arith) h)))))

@@ -45,7 +45,8 @@ module _ {cost : Cost} {frame : Frame} where
   -- so the parts of a root cost the sum of the least costs
   pub least-forest-cost : (price : Claim → ℕ)
       → ((c : Claim) (ws : List Node) → LeastFor cost frame c ws → cost_of cost ws ≡ price c)
-      → {cs : List Claim} {ws : List Node} → LeastForest cost frame cs ws → cost_of cost ws ≡ sum_over price cs
+      → {cs : List Claim} {ws : List Node} → LeastForest cost frame cs ws
+      → cost_of cost ws ≡ sum_over price cs
   least-forest-cost price priced no_least = refl
   least-forest-cost price priced (next_least {c} {ws} {vs} l ls) =
       omega (arith, priced c ws l, least-forest-cost price priced ls, cost-append cost ws vs)

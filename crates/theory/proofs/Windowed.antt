@@ -65,6 +65,7 @@ module _ {frame : Frame} {u v reach : ℕ} (w : Windowed frame u v reach) {cost 
 
 -- Of the endless frame: the root of a least tree looks no further than the window.
 pub least-inside : {cost : Cost} → Level cost → {word : ℕ → ℕ} {u v : ℕ} → Repeats word u v
-    → {f : Formula} {i : ℕ} {x : Node} {ws : List Node} → (l : Least cost (repeat_frame word u v) f i (x ∷ ws))
+    → {f : Formula} {i : ℕ} {x : Node} {ws : List Node}
+    → (l : Least cost (repeat_frame word u v) f i (x ∷ ws))
     → InWindow u v (claim f i l.verdict) x
 least-inside lv w l = window-least-inside (repeats-windowed 0 w) lv l

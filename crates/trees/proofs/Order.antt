@@ -1,7 +1,7 @@
 -- Trees of one formula and position stand in one strict order, by cost and then by words:
 -- so there is at most one least tree.
 use Prim.Native.Nat.{ℕ, ◌+◌, ◌<◌, ◌≤◌}
-use mathlib.Core.Path.{◌≡◌, refl, sym, ◌∙◌, ap, ap₂}
+use mathlib.Core.Path.{◌≡◌, refl, sym, ◌∙◌, ap, ap₂, subst}
 use mathlib.Core.Logic.{◌⊎◌, inl, inr, by_cases}
 use mathlib.Core.List.{List, [], ◌∷◌, ◌++◌, append-nil}
 use native.Mathlib.Decide.{dec_lt}
@@ -48,19 +48,34 @@ module _ {C : Type 0} (m n : ℕ) where
 
 pub node-compared : (x y : Node) → Compared NodeBefore x y
 node-compared x y =
-    by_order x.rule y.rule (λ h. less (by_rule h))
-    (λ r. by_order x.atom y.atom (λ h. less (by_atom r h))
-    (λ a. by_order x.number y.number (λ h. less (by_number r a h))
+    by_order x.rule y.rule (λ h. search (less, greater, by_rule))
+    (λ r. let q : y.rule ≡ x.rule = sym r in
+    by_order x.atom y.atom (λ h. search (less, greater, by_atom))
+    (λ a. let b : y.atom ≡ x.atom = sym a in
+    by_order x.number y.number (λ h. search (less, greater, by_number))
     (λ n. alike (λ i. record { rule = r i; atom = a i; number = n i }))
-    (λ h. greater (by_number (sym r) (sym a) h)))
-    (λ h. greater (by_atom (sym r) h)))
-    (λ h. greater (by_rule h))
+    (λ h. search (less, greater, by_number)))
+    (λ h. search (less, greater, by_atom)))
+    (λ h. search (less, greater, by_rule))
 
 -- Lists of nodes
 
+abbrev first_of_list : Node → List Node → Node
+first_of_list d [] = d
+first_of_list d (x ∷ ws) = x
+
+abbrev rest_of_list : List Node → List Node
+rest_of_list [] = []
+rest_of_list (x ∷ ws) = ws
+
+-- what comes before another list is not that list
+before-apart : {ws vs : List Node} → Before ws vs → ws ≡ vs → ⊥
+before-apart (here {x} {y} {ws} {vs} h) e =
+    node-irreflexive {x = x} (subst (λ z. NodeBefore x z) (sym (ap (first_of_list x) e)) h)
+before-apart (later b) e = before-apart b (ap rest_of_list e)
+
 pub before-irreflexive : {ws : List Node} → ¬ Before ws ws
-before-irreflexive (here h) = node-irreflexive h
-before-irreflexive (later b) = before-irreflexive b
+before-irreflexive b = before-apart b refl
 
 pub before-transitive : {ws vs us : List Node} → Before ws vs → Before vs us → Before ws us
 before-transitive (here h) (here k) = here (node-transitive h k)
@@ -140,7 +155,7 @@ module _ {cost : Cost} where
   at-transitive (cheaper h) c = cheaper (omega (arith, at-cost c))
   at-transitive (earlier e b) (cheaper k) = cheaper (omega arith)
   at-transitive (earlier e b) (earlier d c) = earlier (e ∙ d) (before-transitive b c)
-  at-transitive (earlier e b) (same d) = rw d at (earlier e b)
+  at-transitive {ws} {vs} (earlier e b) (same d) = let k : AtOrBefore cost ws vs = earlier e b in rw d at k
   at-transitive (same e) c = rw e c
 
   pub at-antisymmetric : {ws vs : List Node} → AtOrBefore cost ws vs → AtOrBefore cost vs ws → ws ≡ vs

@@ -43,6 +43,7 @@ module _ {frame : Frame} where
   breaks-one (later r b) (later s d) = ap suc (breaks-one b (rw (needs-one s r) at d))
 
   laid-or-breaks : {cs : List Claim} {ws : List Node} {p : ℕ} → Laid frame cs ws → Breaks frame cs ws p → ⊥
+  laid-or-breaks {p = p} done b = elim b [ ]
   laid-or-breaks (laid r l) (wrong n) = n _ r
   laid-or-breaks (laid r l) (later s b) = laid-or-breaks l (rw (needs-one s r) at b)
 

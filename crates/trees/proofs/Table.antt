@@ -18,7 +18,8 @@ use Rattle.trees.specs.inside.Table.{fixed_parts, rule_fixed}
 pub small_at : (column : List ℕ) → all_below 16 (λ k. leb (get_or column k 0) 5) ≡ true → (r : ℕ) → 1 ≤ r
     → r ≤ 16 → get_or column (r - 1) 0 ≤ 5
 small_at column all r l h =
-    leb-true (get_or column (r - 1) 0) 5 (all-at (λ k. leb (get_or column k 0) 5) 16 (r - 1) all (omega arith))
+    leb-true (get_or column (r - 1) 0) 5
+    (all-at (λ k. leb (get_or column k 0) 5) 16 (r - 1) all (omega arith))
 
 pub sign_small : (r : ℕ) → 1 ≤ r → r ≤ 16 → rule_sign r ≤ 2
 sign_small r l h =

@@ -1,5 +1,5 @@
 -- The verdict that a rule proves.
-use mathlib.Core.Path.{◌≡◌, sym, ap, ◌∙◌}
+use mathlib.Core.Path.{◌≡◌, refl, sym, ap, ◌∙◌}
 use mathlib.Core.Bool.{cond}
 use mathlib.Core.List.{List, ◌∷◌}
 use Prim.Native.Nat.{ℕ, ◌-◌, ◌<◌}
@@ -33,6 +33,16 @@ module _ (r : ℕ) where
   unfolding proven_by
   proven-violated n p m =
       ap (λ t. cond t Holds Violated) (sym (ne_eqb n 1 m)) ∙ ap (λ k. cond (eqb k 1) Holds Violated) p
+
+  -- the same by the rule's sign alone
+  pub sign-holds : rule_sign r ≡ 1 → Holds ≡ proven_by r
+  sign-holds e = proven-holds (rule_sign r) refl e
+
+  pub sign-violated : (rule_sign r ≡ 1 → ⊥) → Violated ≡ proven_by r
+  sign-violated m = proven-violated (rule_sign r) refl m
+
+-- what the cases of `proven` rest on
+pub ruleset proven = (proven-none, proven-past, sign-holds, sign-violated)
 
 pub root-sign : {frame : Frame} {c : Claim} {x : Node} {ws : List Node} → Tree frame c (x ∷ ws)
     → sign_of c.verdict ≡ rule_sign x.rule

@@ -5,7 +5,7 @@ ghost use Rattle.std.specs.Prelude.{◌≡◌, ◌/◌, ◌≤◌, ◌<◌};
 ghost use Rattle.trees.specs.Verdicts.{rule_sign, sign_of, proven_by, claimed_by};
 ghost use Rattle.trees.specs.inside.Table.{rule_kind, rule_fixed};
 
-#[derive(Drop)]
+#[derive(Clone, Copy)]
 pub enum Verdict {
     Holds,
     Violated,
@@ -51,6 +51,7 @@ pub fn fixed(rule: usize) -> usize
 }
 
 // The verdict that a rule proves.
+#[tactic(auto, using(crate::proofs::Verdicts::proven))]
 pub fn proven(rule: usize) -> Verdict
     ensures { result ≡ proven_by rule }
 {

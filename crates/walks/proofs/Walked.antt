@@ -166,7 +166,8 @@ module _ (frame : Frame) (c : Claim) (nodes : List Node) (at : ℕ) where
             (subst
             (λ cs. Breaks frame cs (drop (suc at) nodes) (length (slice (suc at) next nodes) + (q - next)))
             (claimed rest)
-            (subst (λ ws. Breaks frame (take m claims ++ (get_or claims m y ∷ (drop (suc m) claims ++ rest))) ws
+            (subst (λ ws. Breaks frame (take m claims ++ (get_or claims m y ∷ (drop (suc m) claims ++ rest)))
+            ws
             (length (slice (suc at) next nodes) + (q - next)))
             (slice-drop nodes (suc at) next p.after p.inside)
             (breaks-after p.behind (w.2 (drop (suc m) claims ++ rest))))))),

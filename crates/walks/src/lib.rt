@@ -15,7 +15,7 @@ use rules::entry_at;
 use trees::{Verdict, rule_of};
 
 // Where the walk stands after a tree, or the place of the word at which it breaks.
-#[derive(Drop)]
+#[derive(Clone, Copy)]
 pub enum Step {
     Next(usize),
     Bad(usize),

@@ -15,7 +15,6 @@ use Rattle.schedule.specs.Lengths.{length_tests}
 use Rattle.schedule.proofs.Tests.{fails-front, fails-behind, fails-where, passes-front, passes-behind}
 use Rattle.asking.specs.Questions.{Question, question, table_tests, question_tests, length_test, work_tests}
 use Rattle.finding.specs.Worked.{Worked}
-use Rattle.finding.specs.Worked
 use Rattle.wording.specs.Wrote.{Wrote}
 
 -- The first is refused, and whatever refuses it refuses the second.

@@ -102,7 +102,8 @@ module _ (q : Question) (work tree : List ℕ) where
   wrote-wording left tree_left r a zero =
       wording q (worked-answer (worked-passed zero a.answer) a.answer) zero
 
-  pub write-one : (left left' tree_left tree_left' : List ℕ) (r s : Figures) → Wrote q work left tree tree_left r
+  pub write-one : (left left' tree_left tree_left' : List ℕ) (r s : Figures)
+      → Wrote q work left tree tree_left r
       → Wrote q work left' tree tree_left' s → (r ≡ s) × (left ≡ left') × (tree_left ≡ tree_left')
   write-one left left' tree_left tree_left' r s a b =
       let alike = worked-alike (written_one q) a.answer b.answer in

@@ -8,7 +8,7 @@ use native.Mathlib.Nat.{mul-le-mul_left}
 use native.Mathlib.Omega.{arith}
 use lib.ListN.{length, get_or}
 use Rattle.schedule.specs.Limits.{max_letters, max_height, work_length}
-use Rattle.rules.specs.Formula.{Formula, atom, until, height}
+use Rattle.rules.specs.Formula.{Formula, until, height}
 use Rattle.rules.specs.declared.Side.TheVariants.{Future}
 use Rattle.rules.specs.Tables.{formula_of, build, entry_at}
 use Rattle.rules.specs.declared.Entry.{Entry}
@@ -179,7 +179,8 @@ module _ {cost : Cost} {weight : ℕ → ℕ} (by-atoms : ByAtoms cost weight) {
       let g = formula_of table r in
       let end = window_end u v g i in
       let lap : max_height - height Future (until f g) ≤ max_height = omega arith in
-      let there : i < window_end u v g i = w.some g i (omega (arith, (p Holds).near, mul-le-mul_left v lap)) in
+      let there : i < window_end u v g i = w.some g i
+      (omega (arith, (p Holds).near, mul-le-mul_left v lap)) in
       let right = (each_first (cols-parts w from (rule14 {f = f} {g = g} {i = i} {n = end - 1 - i})
       (omega (arith, there)) (p Holds))).near in
       let left = (each_first (cols-parts w from

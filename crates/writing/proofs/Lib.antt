@@ -4,3 +4,4 @@ pub mod Leading
 pub mod Underway
 pub mod Planned
 pub mod Determined
+pub mod Behind

@@ -1,6 +1,7 @@
 -- A cell of the work slice: the verdict of a formula at a position,
 -- and the price of its trees, cut off at 4,096.
-use Rattle.std.specs.Prelude.{ℕ, zero, suc, ◌+◌, ◌-◌, ◌/◌, ◌%◌, ◌^◌, min, max, ◌≡◌, Bool, true, false, not, ◌&&◌, ◌||◌, cond, eqb, leb}
+use Rattle.std.specs.Prelude.{ℕ, zero, suc, ◌+◌, ◌-◌, ◌/◌, ◌%◌, ◌^◌, min, max, ◌≡◌, Bool, true, false, not}
+use Rattle.std.specs.Prelude.{◌&&◌, ◌||◌, cond, eqb, leb}
 use Rattle.theory.specs.inside.Costs.{cut_off, cut}
 use Rattle.theory.specs.inside.RunCosts.{sum_run}
 use Rattle.cells.specs.declared.State.{State}

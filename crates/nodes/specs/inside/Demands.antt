@@ -60,7 +60,8 @@ count_demands r l t i n s =
 
 -- What a node of rules 3 to 16 asks of its parts, by its rule and its number.
 unfoldable pub demands_of : Entry → ℕ → Verdict → ℕ → ℕ → Demands
-demands_of x i s r n = cond (leb r 10) (plain_demands x i s r) (count_demands r (left_of x) (right_of x) i n s)
+demands_of x i s r n = cond (leb r 10) (plain_demands x i s r)
+    (count_demands r (left_of x) (right_of x) i n s)
 
 -- What the sums and differences of a count rely on.
 pub record Countable (r i n : ℕ) : Type 0 where

@@ -28,7 +28,8 @@ pub record Limited (u v reach : ℕ) (table : List ℕ) (e len : ℕ) : Type 0 w
   pub from : u ≤ reach
   pub short : reach ≤ 256
   pub entry : e < max_entries
-  pub low : (k : ℕ) → k ≤ e → height Past (formula_of table k) + height Future (formula_of table k) ≤ max_height
+  pub low : (k : ℕ) → k ≤ e
+      → height Past (formula_of table k) + height Future (formula_of table k) ≤ max_height
   pub room : work_length ≤ len
 
 -- The rows below an entry are filled, and what lies past the 32 rows is as found.

@@ -1,0 +1,4 @@
+pub mod Copying
+pub mod Readings
+pub mod Said
+pub mod Determined
