@@ -1,7 +1,7 @@
 /* chickvessel_text.h: a question as a text, read into lists, or answered as a text: what the program explain
- * does, for C and C++. chickvessel.h says what schedules, tables, trees and refusals are. These calls are in
- * an archive of their own (libexplain_text.a, installed as libchickvessel_text.a), which needs no other; all
- * that chickvessel.h says of archives and pointers holds here too.
+ * does, for C and C++. chickvessel.h says what schedules, tables, trees and refusals are. Each of the two
+ * calls is in an archive of its own (libexplain_text_c.a, libreading_c.a), which needs no other; all that
+ * chickvessel.h says of archives and pointers holds here too.
  *
  * TEXT      Lines in this order, each ended by a newline, and nothing behind them:
  *             prefix=1,4          letters with commas between them, 0 to 4294967295; may be empty

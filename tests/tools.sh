@@ -18,9 +18,9 @@ need() {
 need cmake cmake
 need make make
 need pkg-config pkg-config
+[ "${#emulator[@]}" = 0 ] || need "${emulator[0]}" qemu-user
 if [ "$(uname -m)" = x86_64 ]; then
     need g++ g++
-    [ -z "${EMULATOR:-}" ] || need "$EMULATOR" qemu-user
     CXX=g++
     RUN="${emulator[*]}"
 else

@@ -2,8 +2,8 @@
 """respell.py [TOP]: turns this repository's own names to the spelling of today's Rattle, after port.py.
 
 Words of definitions, lemmas and places are in snake case (letterAt becomes letter_at); types and modules keep
-their capitals. What is turned: every word of the proof language that begins small and has a capital inside, in
-.antt and .rt files and must-fail edits below crates/, and the same words where pages and tests name them.
+their capitals. What is turned: every word of the proof language that begins small and has a capital inside,
+in .antt and .rt files and must-fail edits below crates/, and the same words where pages and tests name them.
 It says which new words the files had before, so that names which fall together are seen. Run it once.
 """
 import os

@@ -2,13 +2,12 @@
 #pragma once
 
 #include "chickvessel.hpp"
-#include "names.hpp"
 
 #include <cstdio>
 
 namespace client {
 
-// Prints "entry 5 is violated at 0: until, because ..", without a newline.
-void because(const chickvessel::node& n, const names& atoms, std::FILE* to);
+// Prints "violated at 0: until, because at half-hour 2 ..", without a newline.
+void because(const chickvessel::node& n, std::FILE* to);
 
 } // namespace client

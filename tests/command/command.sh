@@ -2,13 +2,12 @@
 # disturbing anybody, a stand-in for rt, and what is expected of a call.
 top=$(cd "$here/../.." && pwd)
 built=${PROGRAM:-$top/target-tests/explain}
-into=$top/target-tests/command
-rm -rf "$into"
-mkdir -p "$into/bin" "$into/copy/tests"
+into=$(mktemp -d) # outside of the repository, in which rt wants no other crates
+trap 'rm -rf "$into"' EXIT
+mkdir -p "$into/bin" "$into/copy"
 copy=$into/copy
-cp "$top/explain" "$copy"
-cp "$top/tests/rattle.sh" "$copy/tests"
-cp -r "$top/crates" "$top/crates.txt" "$top/samples" "$copy"
+tar -C "$top" --exclude='crates/*/out' -c explain tests/rattle.sh crates crates.txt samples |
+    tar -C "$copy" -x
 calls=$into/calls
 fail() { echo "command: $*" >&2; exit 1; }
 
@@ -18,10 +17,11 @@ cat >"$into/bin/rt" <<STAND_IN
 #!/bin/sh
 [ "\$1" != doc ] || { cat "$into/guide"; exit; }
 echo "\$*" >>"$calls"
-echo "library std: modules loaded=0 checked=0"
-for crate in schedule rules explain; do echo "rt: \$crate proved (1 s)"; done
+for crate in schedule rules explain; do
+    echo "rt: chose --jobs 2 for \$crate" && echo "library std: modules loaded=0 checked=0"
+done >&2
 [ ! -e "$into/refuse" ] || { echo "a fact that does not hold" >&2; exit 1; }
-mkdir -p target/bin && cp "$built" target/bin/explain
+mkdir -p out && cp "$built" out/explain && out/explain
 STAND_IN
 chmod +x "$into/bin/rt"
 
@@ -52,7 +52,7 @@ one_line() { [ "$(cat "$into/err")" = "$1" ] || fail "$2: said '$(cat "$into/err
 # rt_called TIMES WHAT: so often, and always the same way.
 rt_called() {
     local times=0
-    [ ! -e "$calls" ] || times=$(grep -cx 'check explain' "$calls")
+    [ ! -e "$calls" ] || times=$(grep -cx run "$calls")
     [ "$times" = "$1" ] || fail "$2: rt was called $times times, not $1"
     [ ! -e "$calls" ] || [ "$times" = "$(wc -l <"$calls")" ] || fail "$2: rt was called otherwise"
 }

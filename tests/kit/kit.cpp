@@ -1,7 +1,6 @@
 // kit [SEED]: the C++ kit against the calls of chickvessel.h, and its tree view against a recursion; on trees
 // that check accepts and on any words.
 #define _GLIBCXX_ASSERTIONS // every index into a span is tested
-#include "draws.hpp"
 #include "library.hpp"
 #include "own_walk.hpp"
 #include "shapes.hpp"
@@ -45,57 +44,14 @@ void hold_calls(const test_case& c, tally& t) {
     if (one != two) throw failure("kit: write leaves other words\n" + line_of(c));
 }
 
-// The view of any words ends, with no more nodes than words, and the way down never leaves the table. Words
-// are not whole if some were left.
+// The view of any words ends, with no more nodes than words, and the way down never leaves the table.
 std::size_t walk_any(const chickvessel::question& q, words tree, const test_case& c) {
     std::size_t nodes = 0;
-    const chickvessel::tree_view view(q, tree);
-    chickvessel::tree_view::iterator k = view.begin();
-    for (; k != view.end(); ++k) {
-        if (k->index != nodes++ || nodes > tree.size() || k->depth >= 32 || k->entry >= q.table.size())
+    for (const chickvessel::node& n : chickvessel::tree_view(q, tree)) {
+        if (n.index != nodes++ || nodes > tree.size() || n.depth >= 32 || n.entry >= q.table.size())
             throw failure("kit: view astray\n" + line_of(c));
-        if (k.whole()) throw failure("kit: whole before its end\n" + line_of(c));
     }
-    if (k.whole() != view.whole() || (view.whole() && nodes < tree.size()))
-        throw failure("kit: whole, with words left over\n" + line_of(c));
     return nodes;
-}
-
-// A tree that check accepts is whole; cut anywhere, or lengthened, it is not.
-void hold_whole(const chickvessel::question& q, std::vector<std::uint32_t> tree, const test_case& c, tally& t,
-                random_source& r) {
-    const auto whole = [&](words some) { return chickvessel::tree_view(q, some).whole(); };
-    const auto expect = [&](bool as_should, const char* what) {
-        if (!as_should) throw failure(std::string("kit: ") + what + "\n" + line_of(c));
-    };
-    expect(whole(tree), "a tree is not whole");
-    const std::size_t step = tree.size() / 8 + 1; // a few of many
-    for (std::size_t k = r.next() % step; k < tree.size(); k += step)
-        expect(!whole(words(tree).first(k)), "a cut tree is whole");
-    tree.push_back(tree[r.next() % tree.size()]);
-    expect(!whole(tree), "a lengthened tree is whole");
-    t.met("trees cut and lengthened");
-}
-
-// A field past 255 is refused with 4 by every call, and not answered as the rule that its low bits would be.
-void hold_fields(tally& t) {
-    using namespace chickvessel;
-    const std::uint32_t loop[] = {1};
-    static work_slice work;
-    static tree_room room;
-    const std::uint32_t node[] = {word_of({1, 0, 0})};
-    for (const std::uint32_t word :
-         {chickvessel::atom(256), not_(256), or_(256, 0), or_(0, 256), and_(256, 257), since(256, 257),
-          until(256, 257), atom(std::size_t(1) << 32), entry_word(kind(256), 0, 0),
-          entry_word(kind(65536), 0, 0)}) {
-        const std::uint32_t table[] = {atom(0), atom(1), word};
-        const chickvessel::question q{.loop = loop, .table = table, .entry = 2};
-        for (const chickvessel::answer& a : {truth(q, work), find(q, work), chickvessel::write(q, work, room),
-                                             chickvessel::check(q, node)})
-            if (a != chickvessel::answer{.refused = refusal::bad_entry})
-                throw failure("kit: an entry " + std::to_string(word) + " gives " + text_of(plain(a)));
-        t.met("fields past 255");
-    }
 }
 
 void hold_view(const test_case& c, tally& t, random_source& r) {
@@ -110,7 +66,6 @@ void hold_view(const test_case& c, tally& t, random_source& r) {
             deepest = std::max(deepest, n.depth), ++k, t.met_root(tree[n.index]);
         }
         if (k != tree.size()) throw failure("kit: the view ends early\n" + line_of(c));
-        hold_whole(q, tree, c, t, r);
         t.met("trees walked"), t.met("nodes", k);
         if (deepest == 31) t.met("trees of 32 levels");
         damage_tree(tree, std::max<std::size_t>(c.loop.size(), 1), r);
@@ -130,7 +85,7 @@ void hold_view(const test_case& c, tally& t, random_source& r) {
 void deepest(tally& t, random_source& r) {
     test_case c;
     c.what = call::check, c.loop = {1}, c.table = {chickvessel::atom(0)}, c.entry = 31;
-    while (c.table.size() < 32) c.table.push_back(chickvessel::not_(c.table.size() - 1));
+    while (c.table.size() < 32) c.table.push_back(chickvessel::not_(std::uint32_t(c.table.size() - 1)));
     for (std::uint32_t k = 31; k > 0; --k) c.tree.push_back(word_of({k % 2 == 0 ? 3u : 4u, 0, 0}));
     c.tree.push_back(word_of({1, 0, 0}));
     hold_view(c, t, r);
@@ -142,20 +97,19 @@ int main(int argc, char** argv) try {
     random_source r(argc == 2 ? std::stoull(argv[1]) : 1);
     tally t("kit",
             {"truth", "find", "write", "check", "trees walked", "nodes", "trees of 32 levels",
-             "words that are no tree", "wild words", "trees cut and lengthened", "fields past 255"},
+             "words that are no tree", "wild words"},
             {1, 2, 3, 4, 5, 6, 7, 8, 9, 10, 11, 12},
             {1, 2, 3, 4, 5, 6, 7, 8, 9, 10, 11, 12, 13, 14, 15, 16});
     deepest(t, r);
-    hold_fields(t);
     for (const std::string& shape : shape_names()) {
         if (shape == "view" || shape == "text" || shape == "damaged-text" || shape == "and-chain") continue;
-        for (std::size_t k = 0; k < share_of(EACH); ++k) {
+        for (std::size_t k = 0; k < EACH; ++k) {
             test_case c = case_of_shape(shape, r);
             if (c.what == call::write && c.expected.number == 0) c.tree = c.written;
             hold_calls(c, t), hold_view(c, t, r);
         }
     }
-    std::cout << t.line() << share_said() << "\n";
+    std::cout << t.line() << "\n";
 } catch (const std::exception& e) {
     std::cerr << "kit: FAILED\n" << e.what() << "\n";
     return 1;

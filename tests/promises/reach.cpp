@@ -28,8 +28,8 @@ const names LIBRARY = {
     "chickvessel:chickvessel_write", "wording:write", "checking:check", "finding:truth", "finding:find",
     "schedule:Schedule::new", "schedule:view", "schedule:letter", "schedule:bit",
 };
-const names TEXT_PROGRAM = {"explain_text:explain", "explain_text:chickvessel_explain",
-                            "explain_text:chickvessel_read_text"};
+const names TEXT_PROGRAM = {"explain_text:explain", "explain_text_c:chickvessel_explain",
+                            "reading_c:chickvessel_read_text"};
 constexpr std::size_t LIBRARY_LINES = 450; // the most that its contracts may reach
 
 // No contract cites what this crate defines: its theorem `starred` is read by itself, with its definitions.
@@ -71,23 +71,20 @@ std::vector<line> lines_of(const std::filesystem::path& file, const std::string&
 
 // What stands between spaces, brackets and commas; an operator without the places of its arguments.
 names words_of(std::string text) {
+    static const std::regex places("◌");
     std::replace_if(text.begin(), text.end(), [](char c) { return has("(){},;", {c}); }, ' ');
     names words;
-    std::istringstream in(text);
-    for (std::string word; in >> word;) {
-        word.erase(0, word.find_first_not_of('_')).erase(word.find_last_not_of('_') + 1);
-        if (!word.empty()) words.push_back(word);
-    }
+    std::istringstream in(std::regex_replace(text, places, ""));
+    for (std::string word; in >> word;) words.push_back(word);
     return words;
 }
 
 // use MODULE.{a, b as c}, or use MODULE as M, or use MODULE, of modules of specs/: that of rules/specs/Low is
-// Rattle·rules·specs.specs.Low in the crate itself and Rattle·rules.specs.Low in others.
+// Rattle.rules.specs.Low. What the language's library defines is no crate's here.
 void import(scope& in, const std::string& text) {
-    static const std::regex form(R"(use Rattle·(\w+)(?:·specs)?(\.specs\.[^ {]+?))"
-                                 R"((?:\.\{(.*)\}| as ([^;]+))?;?)");
+    static const std::regex form(R"(use Rattle\.(\w+)(\.specs\.[^ {]+?)(?:\.\{(.*)\}| as ([^;]+))?;?)");
     std::smatch m;
-    if (!has(text, ".specs.")) return;
+    if (!has(text, ".specs.") || text.starts_with("use Rattle.std.")) return;
     if (!std::regex_match(text, m, form)) throw std::runtime_error("cannot read " + text);
     std::string path = m.str(1) + m.str(2);
     std::replace(path.begin(), path.end(), '.', '/');
@@ -97,12 +94,15 @@ void import(scope& in, const std::string& text) {
         if (const names n = words_of(part); !n.empty()) in[n.back()] = path + ":" + n.front();
 }
 
+// A word is a name, a name of a module that was imported whole, or a name and a field of it.
 names addresses(const scope& in, const names& words) {
     names found;
     for (const std::string& word : words) {
         const std::string module = word.substr(0, word.rfind('.') + 1); // empty if there is no dot
+        const std::string name = word.substr(0, word.find('.'));
         if (in.contains(word)) found.push_back(in.at(word));
         else if (in.contains(module)) found.push_back(in.at(module) + word.substr(module.size()));
+        else if (in.contains(name)) found.push_back(in.at(name));
     }
     return found;
 }
@@ -115,7 +115,7 @@ struct repository {
     int breaches = 0;
 
     explicit repository(const std::filesystem::path& crates) {
-        const std::regex antt("(.*/specs/.*|[^/]*/proofs/[^/]*)[.]antt"), rt("(.*/src/.*)[.]rt");
+        const std::regex antt("([^/]*/specs/.*|[^/]*/proofs/[^/]*)[.]antt"), rt("([^/]*/src/.*)[.]rt");
         std::set<std::filesystem::path> files;
         for (const auto& f : std::filesystem::recursive_directory_iterator(crates)) files.insert(f.path());
         for (const auto& f : files) {
@@ -176,11 +176,12 @@ struct repository {
             if (kind == "struct" || kind == "enum") types.insert(path + ":" + name);
             for (auto v = l + 1; kind == "enum" && v != all.end() && v->indent > l->indent; ++v)
                 types.insert(path + ":" + words_of(v->text).at(0));
-            std::string head; // all before a body
-            for (auto h = l; h != all.end() && !h->text.ends_with("{"); ++h) head += h->text + " ";
-            const std::size_t clauses = std::min(head.find("requires {"), head.find("ensures {"));
-            if (kind != "fn" || clauses == NOWHERE) continue;
-            contracts[crate_of(path) + ":" + owner + name] = addresses(in, words_of(head.substr(clauses)));
+            std::string head; // all before a body, whose bracket ends a line that stands no further in
+            for (auto h = l; h != all.end() && (h->indent > l->indent || !h->text.ends_with("{")); ++h)
+                head += h->text + " ";
+            static const std::regex clauses(R"(\b(requires|ensures)( \w+)? \{.*)");
+            if (kind != "fn" || !std::regex_search(head, m, clauses)) continue;
+            contracts[crate_of(path) + ":" + owner + name] = addresses(in, words_of(m.str()));
         }
     }
 
@@ -197,7 +198,7 @@ struct repository {
             open.pop_back();
             // A type that src/ declares, or a variant of one: the type is reached, but no line is counted.
             const bool in_source = has(address, "/specs/declared/");
-            if (in_source) address.erase(std::min(address.find("/the-variants:"), address.find(':')));
+            if (in_source) address.erase(std::min(address.find("/TheVariants:"), address.find(':')));
             definition& d = defined[address];
             if (d.cites.empty() && !in_source) breach(address, "cited by " + by + ", but not there");
             if (!d.cited_by.empty()) continue;

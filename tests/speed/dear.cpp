@@ -65,8 +65,7 @@ std::vector<asked> dear_questions() {
 
 test_case branching_question(std::size_t entries) {
     list table = {entry_word(ATOM, 0, 0), entry_word(AND, 0, 0)};
-    for (std::size_t k = 2; k < entries; ++k)
-        table.push_back(entry_word(k + MAX_HEIGHTS < entries ? AND : UNTIL, k - 2, k - 1));
+    while (table.size() < entries) table.push_back(entry_word(AND, table.size() - 1, table.size() - 2));
     return question(table, {0}, 0, 0);
 }
 

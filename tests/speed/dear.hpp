@@ -8,8 +8,7 @@ namespace speed {
 
 std::vector<asked> dear_questions();
 
-// A table with many ways down: so many entries, each over the two before it, the last five untils, which ask
-// for a height more, the others ands; violated everywhere. No dearer question was found.
+// A table with many ways down: so many entries, each and(k - 1, k - 2), violated everywhere.
 second::test_case branching_question(std::size_t entries);
 
 } // namespace speed

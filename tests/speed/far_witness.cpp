@@ -1,4 +1,4 @@
-// Rule 14 or 15 over least trees.
+// Rule 14 over least trees.
 #include "far_witness.hpp"
 
 #include "least.hpp"
@@ -16,18 +16,16 @@ test_case far_witness(const std::string& question, std::size_t words) {
     const meaning truth(where);
     least best(where, truth);
     const entry_fields until = where.entries[c.entry];
-    const bool holds = truth.holds(c.entry, c.position);
-    const std::size_t witness = holds ? until.right : until.left, member = holds ? until.left : until.right;
     std::size_t n = 0, members = 0;
-    while (1 + best.size(witness, n + 1) + members + best.size(member, n) <= words)
-        members += best.size(member, n), ++n;
-    c.tree = {word_of({holds ? 14u : 15u, 0, std::uint32_t(n)})};
+    while (1 + best.size(until.right, n + 1) + members + best.size(until.left, n) <= words)
+        members += best.size(until.left, n), ++n;
+    c.tree = {word_of({14, 0, std::uint32_t(n)})};
     const auto add = [&](std::size_t entry, std::size_t position) {
         const std::vector<std::uint32_t>& part = best.tree(entry, position);
         c.tree.insert(c.tree.end(), part.begin(), part.end());
     };
-    add(witness, holds ? n : n - 1); // what is violated is so at the witness too
-    for (std::size_t position = 0; position < n; ++position) add(member, position);
+    add(until.right, n);
+    for (std::size_t position = 0; position < n; ++position) add(until.left, position);
     answer_case(c);
     if (c.expected.number != 0) throw std::runtime_error("no valid tree:\n" + line_of(c));
     return c;

@@ -1,4 +1,4 @@
-// Check calls whose trees have about as many words as wanted: an until with a witness so far off.
+// Check calls whose trees have about as many words as wanted: an until that holds, with a witness so far off.
 #pragma once
 
 #include "cases.hpp"
@@ -6,9 +6,8 @@
 namespace speed {
 
 // The question is lists and asked entry as a case file has them, "prefix;loop;table entry". The entry is an
-// until whose left holds everywhere and whose right holds after position 0, where it is asked; or one whose
-// parts are both violated everywhere. The tree has as many list members as fit into so many words, each with
-// its least tree.
+// until whose left holds everywhere and whose right holds after position 0, where it is asked. The tree has
+// as many list members as fit into so many words, each with its least tree.
 second::test_case far_witness(const std::string& question, std::size_t words);
 
 } // namespace speed

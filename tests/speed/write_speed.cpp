@@ -76,15 +76,12 @@ void print_heights() {
     std::vector<asked> questions;
     for (std::size_t entries : {8, 12, 16, 20, 24, 28, 32})
         questions.push_back({std::to_string(entries), branching_question(entries)});
-    group groups[] = {{"and(k - 1, k - 2) and five untils", questions}, {"typical", typical_questions(0)}};
-    measure(groups);
-    const group& g = groups[0];
+    group g("and(k - 1, k - 2)", questions);
+    measure({&g, 1});
     std::cout << "write, " << g.name << "\n    entries   microseconds   plain program\n";
     for (const row& r : g.rows)
         std::cout << std::setw(11) << r.name << std::setw(15) << r.library.seconds * 1e6 << std::setw(16)
                   << r.plain.seconds * 1e6 << "\n";
-    std::cout << "    the last to a typical question asked at 0: "
-              << g.rows.back().library.seconds / mean(groups[1], &row::library) << " times\n";
 }
 
 } // namespace

@@ -1,10 +1,19 @@
 // The text function of the proved program, called with buffers of the test's own.
 #pragma once
 
-#include "chickvessel_text.h"
 #include "random.hpp"
 
+#include <cstddef>
+#include <cstdint>
 #include <string>
+
+extern "C" {
+
+// Answers how many bytes of out are the output. The archive that has it exports nothing else, and the header
+// has no word of it: it is for tests.
+std::size_t chickvessel_explain(const std::uint8_t* text, std::size_t text_len, std::uint16_t* work,
+                                std::uint32_t* tree, std::uint8_t* out);
+}
 
 namespace text {
 

@@ -1,4 +1,4 @@
-// Everything that chickvessel.hpp offers, used once. ../run compiles this alone, without exceptions
+// Everything that chickvessel.hpp offers, used once. ./run compiles this alone, without exceptions
 // and type information and without optimisation, and looks at what it needs: the four calls, and
 // nothing that allocates or throws.
 #include "chickvessel.hpp"

@@ -1,7 +1,7 @@
 // The headers read where function-like macros have the names of their functions, as some game engines have
 // it: no macro may expand in them, and every function can be called with its name in parentheses. The macro
 // check stands before everything; the standard's own headers use some of the other names, so these come
-// after them. ../run compiles this alone; it is not called.
+// after them. ./run compiles this alone; it is not called.
 #define check(...) this_is_the_macro_check
 
 #include <array>

@@ -1,4 +1,4 @@
-// Everything that chickvessel_text.hpp offers, used once. ../run compiles this as it does header_alone.cpp,
+// Everything that chickvessel_text.hpp offers, used once. ./run compiles this as it does header_alone.cpp,
 // and looks at what it needs: the two calls of texts alone.
 #include "chickvessel_text.hpp"
 
