@@ -172,10 +172,11 @@ struct repository {
             std::smatch m;
             if (!std::regex_match(l->text, m, form)) continue;
             const std::string kind = m[1], name = m[2];
-            items[name].push_back(path);
+            items[owner + name].push_back(path);
             if (kind == "struct" || kind == "enum") types.insert(path + ":" + name);
             for (auto v = l + 1; kind == "enum" && v != all.end() && v->indent > l->indent; ++v)
-                types.insert(path + ":" + words_of(v->text).at(0));
+                if (const names words = words_of(v->text); v->indent == l->indent + 4 && !words.empty())
+                    types.insert(path + ":" + words[0]);
             std::string head; // all before a body, whose bracket ends a line that stands no further in
             for (auto h = l; h != all.end() && (h->indent > l->indent || !h->text.ends_with("{")); ++h)
                 head += h->text + " ";

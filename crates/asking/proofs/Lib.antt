@@ -3,4 +3,3 @@ pub mod Limits
 pub mod Numbers
 pub mod Ordered
 pub mod Outcomes
-pub mod Reading

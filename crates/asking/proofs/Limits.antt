@@ -3,13 +3,13 @@ use mathlib.Core.Path.{◌≡◌}
 use mathlib.Core.Bool.{true}
 use mathlib.Core.List.{◌++◌}
 use Prim.Native.Nat.{ℕ, ◌+◌, ◌<◌, ◌≤◌}
-use borrow.Author.Tests.{leb-true, ltb-true}
+use borrow.Author.Tests.{leb-true, ltb-true, le-leb}
 use lib.Dec.{leb, ltb}
 use lib.ListN.{length}
 use Rattle.schedule.specs.Limits.{max_letters, max_entries, max_position, work_length}
 use Rattle.schedule.specs.Tests.{AllPass, none, also}
 use Rattle.schedule.specs.Lengths.{length_tests}
-use Rattle.schedule.proofs.Tests.{passes-front, passes-behind}
+use Rattle.schedule.proofs.Tests.{passes-front, passes-behind, passes-both}
 use Rattle.rules.specs.Low.{low_all}
 use Rattle.schedule.proofs.Tests.{and_both}
 use Rattle.asking.specs.Questions.{Question, table_tests, question_tests, length_test, work_tests}
@@ -50,6 +50,11 @@ module _ (q : Question) (passed : AllPass (question_tests q)) where
   question-few = question-passes.few
 
 -- With room to work in.
+pub work-passes : (q : Question) {len : ℕ} → AllPass (question_tests q) → work_length ≤ len
+    → AllPass (work_tests q len)
+unfolding work_tests
+work-passes q passed room = passes-both passed (also (le-leb _ _ room) none)
+
 module _ (q : Question) (len : ℕ) (passed : AllPass (work_tests q len)) where
   pub work-question : AllPass (question_tests q)
   unfolding work_tests

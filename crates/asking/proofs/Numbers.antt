@@ -12,7 +12,7 @@ use Rattle.asking.specs.Questions.{Question, question_tests, check_tests, work_t
 use Rattle.asking.specs.declared.Refusal.{Refusal}
 use Rattle.asking.specs.declared.Refusal.TheVariants.{EmptyLoop, TooLong, NoTable, BadEntry, TooHigh}
 use Rattle.asking.specs.declared.Refusal.TheVariants.{NoEntry, TooFar, ShortWork, LongTree, TooLarge}
-use Rattle.asking.specs.declared.Refusal.TheVariants.{ShortTree}
+use Rattle.asking.specs.declared.Refusal.TheVariants.{ShortTree, NotValid}
 
 pub refusal-number : (x : Refusal) → (1 ≤ number_of x) × (number_of x ≤ 12)
 refusal-number EmptyLoop = omega arith
@@ -23,6 +23,7 @@ refusal-number TooHigh = omega arith
 refusal-number NoEntry = omega arith
 refusal-number TooFar = omega arith
 refusal-number ShortWork = omega arith
+refusal-number (NotValid p) = omega arith
 refusal-number LongTree = omega arith
 refusal-number TooLarge = omega arith
 refusal-number ShortTree = omega arith

@@ -10,6 +10,7 @@ use Rattle.rules.specs.Low.{low_all}
 use Rattle.trees.specs.Rules.{Frame, Claim, claim}
 use Rattle.trees.specs.Frames.{schedule_frame}
 use Rattle.trees.specs.declared.Verdict.{Verdict}
+use Rattle.asking.specs.declared.LentQuestion.{LentQuestion}
 
 -- A schedule of two lists, a table of words, an entry of it and a position.
 pub record Question : Type 0 where
@@ -22,6 +23,10 @@ pub record Question : Type 0 where
 abbrev pub question : List ℕ → List ℕ → List ℕ → ℕ → ℕ → Question
 question prefix loop table e i =
     record { prefix = prefix; loop = loop; table = table; entry = e; position = i }
+
+-- The question of lists that are lent.
+abbrev pub question_of : LentQuestion → Question
+question_of q = question q.letters.prefix.now q.letters.looped.now q.table.now q.entry q.position
 
 -- The schedule's word, what the rules ask of it, and the asked formula.
 abbrev pub word_in : Question → ℕ → ℕ

@@ -1,2 +1,4 @@
 pub mod Gates
+pub mod Passing
 pub mod Unsized
+pub mod Words

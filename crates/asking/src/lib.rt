@@ -2,15 +2,22 @@
 #![tactic(auto)]
 
 ghost use Rattle.std.specs.Prelude.{◌≡◌};
-ghost use Rattle.asking.specs.Answers.{number_of, figures_of, answer_of};
-ghost use Rattle.asking.specs.Questions.{question, table_tests, question_tests, length_test, work_tests};
+ghost use Rattle.schedule.specs.Lengths.{made_figures};
+ghost use Rattle.schedule.specs.Tests.{AllPass};
+ghost use Rattle.asking.specs.Answers.{number_of, place_of, refused, figures_of, answer_of};
+ghost use Rattle.asking.specs.Questions.{question_of, table_tests, question_tests, length_test, work_tests};
 ghost use Rattle.asking.specs.inside.Gates.{Gates};
+ghost use Rattle.asking.specs.inside.Passing.{all_pass_prop};
 
-use schedule::{MAX_POSITION, Made, Schedule, WORK_LENGTH};
-use trees::{Verdict, sign_of};
+use schedule::{LengthError, LentLetters, MAX_POSITION, Schedule, WORK_LENGTH};
+use trees::Verdict;
 
-// Every refusal but 9, which has a place.
-#[derive(Clone, Copy)]
+mod words;
+
+pub use words::NoRefusal;
+
+// Every refusal; 9 has the place where words are no tree.
+#[derive(Clone, Copy, Debug, PartialEq, Eq)]
 pub enum Refusal {
     EmptyLoop,
     TooLong,
@@ -20,18 +27,22 @@ pub enum Refusal {
     NoEntry,
     TooFar,
     ShortWork,
+    NotValid(u32),
     LongTree,
     TooLarge,
     ShortTree,
 }
 
-// Every answer of every entry point: a refusal, the place where words are no tree, or a verdict with a size.
+// What a call answers that does not refuse: a verdict with a size, 0 where none is given. (The size has 32
+// bits, as it crosses to C; beside a length it is cast, for usize has no From<u32>.)
 #[derive(Clone, Copy)]
-pub enum Outcome {
-    Refused(Refusal),
-    NotValid(u32),
-    Judged(Verdict, u32),
+pub struct Judged {
+    pub verdict: Verdict,
+    pub size: u32,
 }
+
+// Every answer of every entry point. (Contracts speak of its figures, which cross to C.)
+pub type Outcome = Result<Judged, Refusal>;
 
 // The figures of an answer, as they cross to C.
 #[repr(C)]
@@ -43,119 +54,140 @@ pub struct Answer {
     pub size: u32,
 }
 
-// What tests answer: the first refusal that is earned, or none.
+// What is asked: whether an entry of a table holds at a position of a schedule.
 #[derive(Clone, Copy)]
-pub enum Gate {
-    Shut(Refusal),
-    Passed,
+pub struct LentQuestion<'a> {
+    pub letters: LentLetters<'a>,
+    pub table: &'a [u32],
+    pub entry: usize,
+    pub position: usize,
 }
 
-// Refusals 3 to 7 in order, of a table and what is asked of it.
-fn accept_table(table: &[u32], entry: usize, position: usize) -> Gate
-    ensures { Gates (table_tests table.now entry position) result }
-{
-    if table.len() == 0 {
-        return Gate::Shut(Refusal::NoTable);
-    }
-    if Schedule::MAX_ENTRIES < table.len() {
-        return Gate::Shut(Refusal::NoTable);
-    }
-    if !rules::all_keep(table) {
-        return Gate::Shut(Refusal::BadEntry);
-    }
-    if !heights::all_low(table) {
-        return Gate::Shut(Refusal::TooHigh);
-    }
-    if table.len() <= entry {
-        return Gate::Shut(Refusal::NoEntry);
-    }
-    if MAX_POSITION < position {
-        return Gate::Shut(Refusal::TooFar);
-    }
-    Gate::Passed
+// A question that passed its tests.
+#[derive(Clone, Copy)]
+pub struct Passed<'a> {
+    pub question: LentQuestion<'a>,
+    pub ghost tests: { AllPass (question_tests (question_of question)) } by { all_pass_prop _ },
 }
 
-// Refusals 1 to 7 in order: 1 and 2 by the constructor of the lengths.
-pub fn accept(prefix: &[u32], looped: &[u32], table: &[u32], entry: usize, position: usize) -> Gate
-    ensures { Gates (question_tests
-        (question prefix.now looped.now table.now entry position)) result }
-{
-    match Schedule::new(prefix.len(), looped.len()) {
-        Made::EmptyLoop => Gate::Shut(Refusal::EmptyLoop),
-        Made::TooLong => Gate::Shut(Refusal::TooLong),
-        Made::Ready(_) => accept_table(table, entry, position),
+impl<'a> LentQuestion<'a> {
+    // Refusals 3 to 7 in order, of the table and what is asked of it. (3 is one test of the list, in two
+    // ifs: no entry, too many. Each function answers a list of tests of its own, and says so by `Gates`.)
+    fn accept_table(self) -> Result<(), Refusal>
+        ensures { Gates (table_tests self.entry.table.now self.entry.entry self.entry.position) result }
+    {
+        if self.table.is_empty() {
+            return Err(Refusal::NoTable);
+        }
+        if Schedule::MAX_ENTRIES < self.table.len() {
+            return Err(Refusal::NoTable);
+        }
+        if !rules::all_keep(self.table) {
+            return Err(Refusal::BadEntry);
+        }
+        if !heights::all_low(self.table) {
+            return Err(Refusal::TooHigh);
+        }
+        if self.table.len() <= self.entry {
+            return Err(Refusal::NoEntry);
+        }
+        if MAX_POSITION < self.position {
+            return Err(Refusal::TooFar);
+        }
+        Ok(())
+    }
+
+    // Refusals 1 to 7 in order: 1 and 2 by the constructor of the lengths.
+    pub fn accept(self) -> Result<(), Refusal>
+        ensures { Gates (question_tests (question_of self.entry)) result }
+    {
+        Schedule::new(self.letters.prefix.len(), self.letters.looped.len())?;
+        self.accept_table()
+    }
+
+    // Refusals 1 to 8 in order, for the entry points that work in a lent slice; its length is all that is
+    // tested of it.
+    pub fn accept_work(self, work: usize) -> Result<(), Refusal>
+        ensures { Gates (work_tests (question_of self.entry) work) result }
+    {
+        self.accept()?;
+        accept_length(work)
     }
 }
 
 // Refusal 8.
-fn accept_length(work: usize) -> Gate
+fn accept_length(work: usize) -> Result<(), Refusal>
     ensures { Gates (length_test work) result }
 {
     if work < WORK_LENGTH {
-        return Gate::Shut(Refusal::ShortWork);
+        return Err(Refusal::ShortWork);
     }
-    Gate::Passed
+    Ok(())
 }
 
-// Refusals 1 to 8 in order, for the entry points that work in a lent slice.
-pub fn accept_work(
-    prefix: &[u32],
-    looped: &[u32],
-    table: &[u32],
-    entry: usize,
-    position: usize,
-    work: usize,
-) -> Gate
-    ensures { Gates (work_tests
-        (question prefix.now looped.now table.now entry position) work) result }
-{
-    match accept(prefix, looped, table, entry, position) {
-        Gate::Shut(refusal) => Gate::Shut(refusal),
-        Gate::Passed => accept_length(work),
+impl From<LengthError> for Refusal {
+    ghost from_gives = { λ error refusal. refused refusal ≡ made_figures error };
+
+    fn from(error: LengthError) -> Refusal {
+        match error {
+            LengthError::EmptyLoop => Refusal::EmptyLoop,
+            LengthError::TooLong => Refusal::TooLong,
+        }
     }
 }
 
 // The number of a refusal.
-fn number_of(refusal: Refusal) -> u32
-    ensures { result ≡ number_of refusal }
-{
-    match refusal {
-        Refusal::EmptyLoop => 1,
-        Refusal::TooLong => 2,
-        Refusal::NoTable => 3,
-        Refusal::BadEntry => 4,
-        Refusal::TooHigh => 5,
-        Refusal::NoEntry => 6,
-        Refusal::TooFar => 7,
-        Refusal::ShortWork => 8,
-        Refusal::LongTree => 10,
-        Refusal::TooLarge => 11,
-        Refusal::ShortTree => 12,
+impl From<Refusal> for u32 {
+    ghost from_gives = { λ refusal number. number ≡ number_of refusal };
+
+    fn from(refusal: Refusal) -> u32 {
+        match refusal {
+            Refusal::EmptyLoop => 1,
+            Refusal::TooLong => 2,
+            Refusal::NoTable => 3,
+            Refusal::BadEntry => 4,
+            Refusal::TooHigh => 5,
+            Refusal::NoEntry => 6,
+            Refusal::TooFar => 7,
+            Refusal::ShortWork => 8,
+            Refusal::NotValid(_) => 9,
+            Refusal::LongTree => 10,
+            Refusal::TooLarge => 11,
+            Refusal::ShortTree => 12,
+        }
     }
 }
 
 // The figures of an outcome: the one place where a case becomes numbers.
-pub fn answer_of(outcome: Outcome) -> Answer
-    ensures { answer_of result ≡ figures_of outcome }
-{
-    match outcome {
-        Outcome::Refused(refusal) => Answer {
-            number: number_of(refusal),
-            place: 0,
-            verdict: 0,
-            size: 0,
-        },
-        Outcome::NotValid(place) => Answer {
-            number: 9,
-            place,
-            verdict: 0,
-            size: 0,
-        },
-        Outcome::Judged(verdict, size) => Answer {
-            number: 0,
-            place: 0,
-            verdict: sign_of(verdict),
-            size,
-        },
+impl From<Outcome> for Answer {
+    ghost from_gives = { λ outcome answer. answer_of answer ≡ figures_of outcome };
+
+    fn from(outcome: Outcome) -> Answer {
+        match outcome {
+            Ok(judged) => Answer {
+                number: 0,
+                place: 0,
+                verdict: u32::from(judged.verdict),
+                size: judged.size,
+            },
+            Err(refusal) => Answer {
+                number: u32::from(refusal),
+                place: refusal.place(),
+                verdict: 0,
+                size: 0,
+            },
+        }
+    }
+}
+
+impl Refusal {
+    // The place of 9, else 0.
+    fn place(self) -> u32
+        ensures { result ≡ place_of self }
+    {
+        match self {
+            Refusal::NotValid(place) => place,
+            _ => 0,
+        }
     }
 }

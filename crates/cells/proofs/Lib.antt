@@ -1,4 +1,2 @@
-pub mod Cells
 pub mod Meant
 pub mod MeantPlain
-pub mod Sliding

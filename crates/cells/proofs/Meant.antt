@@ -33,7 +33,7 @@ use Rattle.theory.proofs.Cuts.{cut-one}
 use Rattle.theory.proofs.Prices.{unmeant-price}
 use Rattle.theory.proofs.CostsSince.{held_start, broken-start, held-step, broken-step, held_whole}
 use Rattle.theory.proofs.CostsSince.{broken-whole}
-use Rattle.cells.specs.declared.State.{State}
+use Rattle.cells.specs.inside.Stands.{Stand}
 use Rattle.cells.specs.inside.Cells.{holds_in, pro_of, con_of, cell_of, goes_on, stepped, since_state}
 use Rattle.cells.specs.inside.Cells.{until_state, held_from}
 use Rattle.cells.specs.inside.Meant.{CellFor}
@@ -119,7 +119,7 @@ before_on zero = (λ h. since-first.0 (⊎_elim (λ b. b) (λ p. absurd p.1) h),
 before_on (suc i) = since-unrolled i
 
 -- What a loop along a row of a since knows before it comes to the position e.
-pub record SinceFor (cost : Cost) (frame : Frame) (f g : Formula) (e : ℕ) (x : State) : Type 0 where
+pub record SinceFor (cost : Cost) (frame : Frame) (f g : Formula) (e : ℕ) (x : Stand) : Type 0 where
   pub says : Says (SinceBefore (Meant frame.letter f) (Meant frame.letter g) e) x.holds
   pub pro : CutLeast (HeldUpTo cost frame f g e) x.pro
   pub con : CutLeast (BrokenUpTo cost frame f g e) x.con
@@ -141,7 +141,7 @@ module _ {cost : Cost} {weight : ℕ → ℕ} (by-atoms : ByAtoms cost weight) {
         (omega (arith, by-atoms.other 13 (omega arith))) broken-start;
   }
 
-  since-steps : (e a b : ℕ) (x : State) → SinceFor cost frame f g e x → CellFor cost frame f e a
+  since-steps : (e a b : ℕ) (x : Stand) → SinceFor cost frame f g e x → CellFor cost frame f e a
       → CellFor cost frame g e b → SinceFor cost frame f g (suc e) (stepped x a b)
   unfolding stepped goes_on
   since-steps e a b x s ca cb = record {
@@ -172,7 +172,7 @@ module _ {cost : Cost} {weight : ℕ → ℕ} (by-atoms : ByAtoms cost weight) {
         cell-for law _ _ _ s.says (held_whole i s.pro) (broken-whole i s.con)
 
 -- What a loop down a row of an until knows at a position, of witnesses below the top.
-pub record UntilFor (cost : Cost) (frame : Frame) (f g : Formula) (top i : ℕ) (x : State) : Type 0 where
+pub record UntilFor (cost : Cost) (frame : Frame) (f g : Formula) (top i : ℕ) (x : Stand) : Type 0 where
   pub says : Says (UntilBelow (Meant frame.letter f) (Meant frame.letter g) top i) x.holds
   pub pro : CutLeast (HoldsBefore cost frame f g top i) x.pro
   pub con : CutLeast (CutBefore cost frame f g top i) x.con
@@ -194,7 +194,7 @@ module _ {cost : Cost} {weight : ℕ → ℕ} (by-atoms : ByAtoms cost weight) {
     con = witness-start past;
   }
 
-  until-steps : (i a b : ℕ) (x : State) → i < top → UntilFor cost frame f g top (suc i) x
+  until-steps : (i a b : ℕ) (x : Stand) → i < top → UntilFor cost frame f g top (suc i) x
       → CellFor cost frame f i a → CellFor cost frame g i b → UntilFor cost frame f g top i (stepped x a b)
   unfolding stepped goes_on
   until-steps i a b x near s ca cb = record {
@@ -225,7 +225,7 @@ module _ {cost : Cost} {weight : ℕ → ℕ} (by-atoms : ByAtoms cost weight) {
     (ca : (k : ℕ) → k < top → CellFor cost frame f k (a k))
     (cb : (k : ℕ) → k < top → CellFor cost frame g k (b k)) where
   -- The cells of an until, where the window ends at the top at the latest.
-  pub until-cell : (i n : ℕ) → window_end u v g i ≤ top → n ≡ window_count u v i (height Past g) → (x : State)
+  pub until-cell : (i n : ℕ) → window_end u v g i ≤ top → n ≡ window_count u v i (height Past g) → (x : Stand)
       → until_state a b top (top - i) ≡ x
       → CellFor cost frame (until f g) i
       (cell_of (record {

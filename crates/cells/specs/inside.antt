@@ -1,2 +1,3 @@
+pub mod Stands
 pub mod Cells
 pub mod Meant

@@ -8,7 +8,8 @@ use lib.ListN.{get_or}
 use Rattle.schedule.specs.Figures.{Figures}
 use Rattle.schedule.specs.Tests.{AllPass}
 use Rattle.schedule.proofs.Tests.{fails-one, fails-or-passes, passes-front}
-use Rattle.trees.specs.Nodes.{Node, node_of}
+use Rattle.trees.specs.Nodes.{node_of}
+use Rattle.trees.specs.declared.Node.{Node}
 use Rattle.trees.specs.Rules.{Frame, Claim}
 use Rattle.trees.specs.Trees.{Tree, grown}
 use Rattle.trees.specs.Place.{Breaks}

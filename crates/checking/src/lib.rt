@@ -1,67 +1,52 @@
 // Check: whether words are a valid tree for a question, or where they break off.
 #![tactic(auto)]
 
-ghost use Rattle.schedule.specs.Tests.{AllPass};
 ghost use Rattle.asking.specs.Answers.{figures_of};
-ghost use Rattle.asking.specs.Questions.{question, question_tests};
+ghost use Rattle.asking.specs.Questions.{question_of};
 ghost use Rattle.checking.specs.Checked.{Checked};
 
-use asking::{Gate, Outcome, Refusal, accept};
+use asking::{Judged, LentQuestion, Outcome, Passed, Refusal};
+use rules::Table;
 use schedule::MAX_WORDS;
-use walks::Step;
+use trees::claimed;
+use walks::walk;
 
 // Words that are judged: 10, the verdict of a valid tree, or the place where they break off from being one.
-fn judge<'a>(
-    prefix: &'a [u32],
-    looped: &'a [u32],
-    table: &[u32],
-    entry: usize,
-    position: usize,
-    tree: &[u32],
-) -> Outcome
-    requires { AllPass (question_tests (question prefix.now looped.now table.now entry position)) }
-    ensures { Checked
-        (question prefix.now looped.now table.now entry position)
-        tree.now (figures_of result) }
+fn judge(passed: Passed<'_>, tree: &[u32]) -> Outcome
+    ensures { Checked (question_of passed.entry.question) tree.now (figures_of result) }
 {
+    let question = passed.question;
     if MAX_WORDS < tree.len() {
-        return Outcome::Refused(Refusal::LongTree);
+        return Err(Refusal::LongTree);
     }
-    if tree.len() == 0 {
-        return Outcome::NotValid(0);
-    }
-    let verdict = trees::claimed(tree[0]);
-    match walks::walk(prefix, looped, table, tree, entry, position, verdict, 0) {
-        Step::Bad(place) => Outcome::NotValid(place as u32),
-        Step::Next(after) => {
-            if after < tree.len() {
-                return Outcome::NotValid(after as u32);
-            }
-            Outcome::Judged(verdict, 0)
-        }
+    let Some(root) = tree.first() else {
+        return Err(Refusal::NotValid(0));
+    };
+    let verdict = claimed(*root);
+    // the three ends of a walk, two of them 9 at a place of their own; places fit 32 bits, since they are
+    // at most 4,095
+    match walk(
+        &question.letters,
+        question.table,
+        tree,
+        question.entry,
+        question.position,
+        verdict,
+        0,
+    ) {
+        Ok(after) if after == tree.len() => Ok(Judged { verdict, size: 0 }),
+        Ok(after) => Err(Refusal::NotValid(after as u32)), // words are left over
+        Err(broken) => Err(Refusal::NotValid(broken.place as u32)),
     }
 }
 
 // Whether the words are a valid tree for an entry of a table at a position of a schedule.
-pub fn check<'a>(
-    prefix: &'a [u32],
-    looped: &'a [u32],
-    table: &[u32],
-    entry: usize,
-    position: usize,
-    tree: &[u32],
-) -> Outcome
-    ensures { Checked
-        (question prefix.now looped.now table.now entry position)
-        tree.now (figures_of result) }
+pub fn check(question: LentQuestion<'_>, tree: &[u32]) -> Outcome
+    ensures { Checked (question_of question.entry) tree.now (figures_of result) }
 {
-    match accept(prefix, looped, table, entry, position) {
-        Gate::Shut(refusal) => Outcome::Refused(refusal),
-        Gate::Passed => {
-            let record = rules::table_of(table);
-            let words = record.words;
-            let len = record.len;
-            judge(prefix, looped, &words[..len], entry, position, tree)
-        }
-    }
+    question.accept()?;
+    let record = Table::new(question.table);
+    let table = record.entries();
+    let question = LentQuestion { table, ..question };
+    judge(Passed { question }, tree)
 }

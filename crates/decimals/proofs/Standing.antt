@@ -6,10 +6,10 @@ use Prim.Native.Nat.{ℕ, ◌+◌, ◌<◌, ◌≤◌}
 use native.Mathlib.Omega.{arith}
 use lib.ListN.{length, get_or, take, drop, length-append, take-append-drop}
 use lib.Seq.{slice, length-slice, length-take-le, drop-append-le, get_or-drop, take_at, drop_at}
+use Rattle.std.specs.Prelude.{Option, Some, None}
 use Rattle.decimals.specs.Decimals.{Decimal}
 use Rattle.decimals.specs.inside.Numbers.{NoDigit, Stands, Numbered}
 use Rattle.decimals.specs.declared.Numeral.{Numeral}
-use Rattle.decimals.specs.declared.Numeral.TheVariants.{Wrong, Read}
 use Rattle.decimals.proofs.Digits.{Digits, decimal-number, decimal-digits, decimal-some}
 
 no_digit : {b : ℕ} → NoDigit b → 48 ≤ b → b ≤ 57 → ⊥
@@ -105,10 +105,10 @@ stands_one {text} {at} {next} {k} {m} s t =
     )
 
 -- Two answers that meet the contract coincide.
-pub number-one : (text : List ℕ) (at max : ℕ) (r s : Numeral) → Numbered text at max r
+pub number-one : (text : List ℕ) (at max : ℕ) (r s : Option Numeral) → Numbered text at max r
     → Numbered text at max s → r ≡ s
-number-one text at max Wrong Wrong p q = refl
-number-one text at max Wrong (Read n next) p q = absurd (p next n q.2 q.1)
-number-one text at max (Read n next) Wrong p q = absurd (q next n p.2 p.1)
-number-one text at max (Read n next) (Read m k) p q =
-    let same = stands_one p.2 q.2 in λ i. Read (same.1 i) (same.0 i)
+number-one text at max None None p q = refl
+number-one text at max None (Some s) p q = absurd (p s.next s.value q.2 q.1)
+number-one text at max (Some r) None p q = absurd (q r.next r.value p.2 p.1)
+number-one text at max (Some r) (Some s) p q =
+    let same = stands_one p.2 q.2 in λ i. Some (record { value = same.1 i; next = same.0 i })

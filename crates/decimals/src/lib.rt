@@ -1,64 +1,56 @@
 // Decimal numbers in a text of bytes.
 #![tactic(auto)]
 
-ghost use Rattle.std.specs.Prelude.{◌≤◌, length};
 ghost use Rattle.decimals.specs.inside.Numbers.{Figure, Numbered};
 
 // The byte between numbers, and the byte that ends a line.
-pub const COMMA: u8 = 44;
+pub const COMMA: u8 = b',';
 
-pub const NEWLINE: u8 = 10;
+pub const NEWLINE: u8 = b'\n';
 
-// A number and the place behind it.
+// A number that stands in a text, and the place behind it. (A place and not the rest of the text, since
+// `Numbered` speaks of places.)
 #[derive(Clone, Copy)]
-pub enum Numeral {
-    Wrong,
-    Read(u32, usize),
+pub struct Numeral {
+    pub value: u32,
+    pub next: usize,
 }
 
-// The figure that a byte stands for; 10 for a byte that is no digit.
-fn figure(byte: u8) -> u64
-    ensures { (result ≤ 10) × Figure byte result }
+// The figure that a byte stands for, if it is a digit.
+fn figure(byte: u8) -> Option<u32>
+    ensures { Figure byte result }
 {
-    if byte < 48 {
-        return 10;
+    match byte {
+        b'0'..=b'9' => Some(u32::from(byte - b'0')),
+        _ => None,
     }
-    if 57 < byte {
-        return 10;
-    }
-    byte as u64 - 48
 }
 
-// The number that stands at a place, up to the first byte that is no digit, if it is at most max. Digits are
-// read no further than max allows, so that no sum grows past 64 bits.
-pub fn number(text: &[u8], at: usize, max: u32) -> Numeral
-    requires { at ≤ length text.now }
-    ensures { Numbered text.now at max result }
+// The number that stands at a text's beginning, up to the first byte that is no digit, if it is at most max.
+// (What does not fit its 32 bits is above max. By hand, since `parse` takes a sign and leading zeros, and
+// does not say where a number ends.)
+pub fn number(text: &[u8], max: u32) -> Option<Numeral>
+    ensures { Numbered text.now 0 max result }
 {
-    if text.len() <= at {
-        return Numeral::Wrong;
+    let (first, others) = text.split_first()?;
+    let mut value = figure(*first)?;
+    if max < value {
+        return None;
     }
-    let mut n = figure(text[at]);
-    if n == 10 {
-        return Numeral::Wrong;
-    }
-    if (max as u64) < n {
-        return Numeral::Wrong;
-    }
-    let mut next = at + 1;
-    while next < text.len() {
-        let digit = figure(text[next]);
-        if digit == 10 {
-            return Numeral::Read(n as u32, next);
+    for (k, byte) in others.iter().enumerate() {
+        let Some(digit) = figure(*byte) else {
+            return Some(Numeral { value, next: 1 + k });
+        };
+        if value == 0 {
+            return None; // a leading zero
         }
-        if n == 0 {
-            return Numeral::Wrong; // a leading zero
+        value = value.checked_mul(10)?.checked_add(digit)?;
+        if max < value {
+            return None;
         }
-        n = n * 10 + digit;
-        if (max as u64) < n {
-            return Numeral::Wrong;
-        }
-        next += 1;
     }
-    Numeral::Read(n as u32, next)
+    Some(Numeral {
+        value,
+        next: text.len(),
+    })
 }

@@ -7,7 +7,7 @@ use mathlib.Core.List.{List, [], ◌∷◌}
 use borrow.Author.Tests.{ltb-true, eqb-true}
 use lib.Dec.{eqb, ltb}
 use lib.ListN.{length}
-use Rattle.rules.specs.Entries.{is_alone, are_earlier, pair_of, entry_from, entry_of}
+use Rattle.rules.specs.Entries.{entry_of}
 use Rattle.rules.specs.Tables.{formula_of}
 use Rattle.schedule.proofs.Tests.{and_both}
 use Rattle.trees.specs.Least.{ones}
@@ -79,9 +79,8 @@ all-kept (row ∷ rows) e =
     also (passes_kept row both.0) (all-kept rows both.1)
 
 starred-pass : all_pass starred ≡ true
-unfolding formula_of entry_of entry_from pair_of is_alone are_earlier holds_in pro_of con_of cell_of
-    atom_state atom_cell
-    not_state goes_on stepped since_state since_cell until_state closed until_cell
+unfolding formula_of entry_of holds_in pro_of con_of cell_of atom_state atom_cell not_state goes_on
+    stepped since_state since_cell until_state closed until_cell
 starred-pass = refl
 
 pub starred-kept : Every Kept starred

@@ -1,6 +1,6 @@
 -- The starred measured examples as one list, and what each of its rows promises.
 use Rattle.std.specs.Prelude.{ℕ, ◌≡◌, List, [], ◌∷◌, length}
-use Rattle.trees.specs.Nodes.{Node}
+use Rattle.trees.specs.declared.Node.{Node}
 use Rattle.trees.specs.declared.Verdict.{Verdict}
 use Rattle.trees.specs.declared.Verdict.TheVariants.{Holds, Violated}
 use Rattle.trees.specs.Means.{Means}

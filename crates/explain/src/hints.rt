@@ -1,285 +1,200 @@
 // What is wrong in the first wrong line of a text, in words. The lines before it are right.
 ghost use Rattle.std.specs.Prelude.{◌≤◌, length};
 
-use crate::saying::{say, say_byte, say_number};
-use decimals::{COMMA, NEWLINE, Numeral, number};
+use decimals::{COMMA, NEWLINE, number};
+use std::fmt;
 
-const RETURN: u8 = 13;
-
-// What a line has behind its keyword: how many numbers, 0 for any, and how large they may be.
-#[derive(Clone, Copy)]
-struct Fields {
-    from: usize,
-    count: usize,
-    max: u32,
-}
-
-// Says what is wrong in a line.
+// Says what is wrong in a line; lines are counted from 1. What cannot be written is lost: there is nowhere
+// else to say so.
 pub fn hint(rt: &impl Eprint, text: &[u8], line: usize) {
-    let start = line_start(text, line);
-    let end = line_end(text, start);
-    say(rt, "explain: line ");
-    say_number(rt, line as u64);
-    if behind_ask(text, line) {
-        say(rt, ": nothing may stand behind the line of ask\n");
-        return;
-    }
-    if text.len() <= start {
-        say(rt, " is missing: it begins with ");
-        say_keyword(rt, line);
-        say(rt, "\n");
-        return;
-    }
-    if ends_in_return(text, start, end) {
-        say(rt, " ends in CR: lines end with a newline alone\n");
-        return;
-    }
-    let fields = fields_of(text, start, line);
-    if fields.from == start {
-        say(rt, " should begin with ");
-        say_keyword(rt, line);
-        say_first(rt, text, start);
-        return;
-    }
-    hint_fields(rt, text, start, end, fields);
+    let fault = fault_in(text, line);
+    let _ = eprintln!(rt; "explain: line {line}{fault}");
 }
 
-// The place where a line begins; lines are counted from 1.
-fn line_start(text: &[u8], line: usize) -> usize
-    ensures { result ≤ length text.now }
-{
-    let mut at = 0;
-    let mut left = line;
-    while at < text.len() {
-        if left <= 1 {
-            return at;
-        }
-        if text[at] == NEWLINE {
-            left -= 1;
-        }
-        at += 1;
-    }
-    at
-}
-
-// The place of the newline that ends a line, or the end of the text.
-fn line_end(text: &[u8], from: usize) -> usize
-    requires { from ≤ length text.now }
-    ensures { (from ≤ result) × (result ≤ length text.now) }
-{
-    let mut at = from;
-    while at < text.len() {
-        if text[at] == NEWLINE {
-            return at;
-        }
-        at += 1;
-    }
-    at
-}
-
-// Whether the line before this one is the question: of right lines it alone begins with an a.
-fn behind_ask(text: &[u8], line: usize) -> bool {
-    if line < 2 {
-        return false;
-    }
-    let before = line_start(text, line - 1);
-    if text.len() <= before {
-        return false;
-    }
-    text[before] == b'a'
-}
-
-fn ends_in_return(text: &[u8], start: usize, end: usize) -> bool
-    requires { end ≤ length text.now }
-{
-    if end <= start {
-        return false;
-    }
-    text[end - 1] == RETURN
-}
-
-// Says what a line of this number begins with.
-fn say_keyword(rt: &impl Eprint, line: usize) {
-    match line {
-        1 => say(rt, "prefix="),
-        2 => say(rt, "loop="),
-        _ => say(rt, "entry= or ask="),
-    }
-}
-
-// Says what a line begins with, if that is not seen at a glance: a mark in front of it, a space, nothing.
-fn say_first(rt: &impl Eprint, text: &[u8], start: usize) {
-    if text.len() <= start {
-        return;
-    }
-    let byte = text[start];
-    if byte == NEWLINE {
-        say(rt, ", and is empty");
-    } else if byte < b'a' {
-        say(rt, ", and begins with ");
-        say_byte(rt, byte);
-    } else if b'z' < byte {
-        say(rt, ", and begins with ");
-        say_byte(rt, byte);
-    }
-    say(rt, "\n");
-}
-
-// The place behind a keyword that stands at a place; that place itself if another thing stands there.
-fn behind(text: &[u8], at: usize, word: &[u8]) -> usize
-    requires { at ≤ length text.now }
-    ensures { result ≤ length text.now }
-{
-    if text.len() - at < word.len() {
-        return at;
-    }
-    let mut k = 0;
-    while k < word.len() {
-        if text[at + k] != word[k] {
-            return at;
-        }
-        k += 1;
-    }
-    at + k
-}
-
-// What should stand behind the keyword of a line; from is the line's start if it has no keyword of its own.
-fn fields_of(text: &[u8], start: usize, line: usize) -> Fields
-    requires { start ≤ length text.now }
-{
-    if line == 1 {
-        return Fields {
-            from: behind(text, start, b"prefix="),
-            count: 0,
-            max: 4294967295,
-        };
-    }
-    if line == 2 {
-        return Fields {
-            from: behind(text, start, b"loop="),
-            count: 0,
-            max: 4294967295,
-        };
-    }
-    let entry = behind(text, start, b"entry=");
-    if start < entry {
-        return Fields {
-            from: entry,
-            count: 3,
-            max: 255,
-        };
-    }
-    Fields {
-        from: behind(text, start, b"ask="),
-        count: 2,
-        max: 65535,
-    }
-}
-
-// Says what is wrong behind the keyword of a line.
-fn hint_fields(rt: &impl Eprint, text: &[u8], start: usize, end: usize, fields: Fields)
-    requires { end ≤ length text.now }
-{
-    let stop = numbers_end(text, fields.from, end, fields.max);
-    let at = stop.at;
-    if at < end {
-        hint_byte(rt, text, start, at, fields.max);
-        return;
-    }
-    if stop.missing {
-        if 0 < stop.count {
-            say(rt, " ends in a comma: a number is missing behind it\n");
-            return;
-        }
-    }
-    if fields.count != 0 {
-        if stop.count != fields.count {
-            say(rt, " should have ");
-            say_number(rt, fields.count as u64);
-            say(rt, " numbers, and has ");
-            say_number(rt, stop.count as u64);
-            say(rt, "\n");
-            return;
-        }
-    }
-    say(rt, " is not ended by a newline\n");
-}
-
-// Says what is wrong with the number or the byte at a place of a line.
-fn hint_byte(rt: &impl Eprint, text: &[u8], start: usize, at: usize, max: u32) {
-    if text.len() <= at {
-        return;
-    }
-    if start <= at {
-        say(rt, ", byte ");
-        say_number(rt, (at - start) as u64 + 1);
-    }
-    say(rt, ": ");
-    let byte = text[at];
-    if byte == COMMA {
-        say(rt, "a number is missing before the comma\n");
-    } else if byte == b'0' {
-        say(rt, "a number has no leading zero\n");
-    } else if is_digit(byte) {
-        say(rt, "the number is larger than ");
-        say_number(rt, max as u64);
-        say(rt, "\n");
-    } else {
-        say_byte(rt, byte);
-        say(rt, " is neither a digit nor a comma\n");
-    }
-}
-
-fn is_digit(byte: u8) -> bool {
-    if byte < 48 {
-        return false;
-    }
-    byte < 58
-}
-
-// Where the numbers of a line end, or the first place that is wrong; how many there are before it; and
-// whether a number is missing at the end.
+// What is wrong in a line.
 #[derive(Clone, Copy)]
-struct Stop {
-    at: usize,
-    count: usize,
-    missing: bool,
+enum Fault {
+    BehindAsk,
+    Missing {
+        keyword: &'static str,
+    },
+    CarriageReturn,
+    Keyword {
+        keyword: &'static str,
+        first: Option<u8>,
+    },
+    Byte {
+        byte: u8,
+        place: usize,
+        max: u32,
+    },
+    LastComma,
+    Count {
+        wanted: usize,
+        found: usize,
+    },
+    Newline,
 }
 
-// Passes numbers with commas between them, as far as they are right.
-fn numbers_end(text: &[u8], from: usize, end: usize, max: u32) -> Stop
-    requires { end ≤ length text.now }
-{
-    let mut at = from;
-    let mut count = 0;
-    while at < end {
-        let Numeral::Read(_, next) = number(text, at, max) else {
-            return Stop {
-                at,
-                count,
-                missing: false,
-            };
-        };
-        count += 1;
-        if end <= next {
-            return Stop {
-                at: next,
-                count,
-                missing: false,
-            };
+impl fmt::Display for Fault {
+    fn fmt<W: fmt::Write>(&self, f: &mut fmt::Formatter<W>) -> fmt::Result {
+        match *self {
+            Fault::BehindAsk => write!(f, ": nothing may stand behind the line of ask"),
+            Fault::Missing { keyword } => write!(f, " is missing: it begins with {keyword}"),
+            Fault::CarriageReturn => write!(f, " ends in CR: lines end with a newline alone"),
+            Fault::Keyword { keyword, first } => {
+                write!(f, " should begin with {keyword}")?;
+                match first {
+                    Some(b'a'..=b'z') => Ok(()), // seen at a glance
+                    Some(byte) => write!(f, ", and begins with {}", Byte(byte)),
+                    None => write!(f, ", and is empty"),
+                }
+            }
+            Fault::Byte { byte, place, max } => {
+                write!(f, ", byte {place}: ")?;
+                match byte {
+                    COMMA => write!(f, "a number is missing before the comma"),
+                    b'0' => write!(f, "a number has no leading zero"),
+                    b'1'..=b'9' => write!(f, "the number is larger than {max}"),
+                    _ => write!(f, "{} is neither a digit nor a comma", Byte(byte)),
+                }
+            }
+            Fault::LastComma => write!(f, " ends in a comma: a number is missing behind it"),
+            Fault::Count { wanted, found } => write!(
+                f,
+                " should have {wanted} numbers, and has {found}"
+            ),
+            Fault::Newline => write!(f, " is not ended by a newline"),
         }
-        if text[next] != COMMA {
-            return Stop {
-                at: next,
-                count,
-                missing: false,
-            };
-        }
-        at = next + 1;
     }
-    Stop {
-        at,
-        count,
-        missing: true,
+}
+
+// A byte as it is printed, or its number.
+#[derive(Clone, Copy)]
+struct Byte(u8);
+
+impl fmt::Display for Byte {
+    fn fmt<W: fmt::Write>(&self, f: &mut fmt::Formatter<W>) -> fmt::Result {
+        let byte = self.0;
+        match byte {
+            b' '..=b'~' => write!(f, "'{}'", char::from(byte)),
+            _ => write!(f, "byte {byte}"),
+        }
+    }
+}
+
+fn fault_in(text: &[u8], line: usize) -> Fault {
+    // of right lines the question alone begins with an a
+    let before = line_of(text, line.saturating_sub(1));
+    if before.is_some_and(|bytes| bytes.starts_with(b"a")) {
+        return Fault::BehindAsk;
+    }
+    let Some(whole) = line_of(text, line) else {
+        return Fault::Missing {
+            keyword: keyword(line),
+        };
+    };
+    let bytes = whole.strip_suffix(&[NEWLINE]).unwrap_or(whole);
+    if bytes.ends_with(b"\r") {
+        return Fault::CarriageReturn;
+    }
+    match Fields::of(bytes, line) {
+        Some(fields) => fields.fault(),
+        None => Fault::Keyword {
+            keyword: keyword(line),
+            first: bytes.first().copied(),
+        },
+    }
+}
+
+// A line with its newline; none if the text ends before it.
+fn line_of(text: &[u8], line: usize) -> Option<&[u8]> {
+    let before = line.checked_sub(1)?;
+    text.split_inclusive(|byte| *byte == NEWLINE).nth(before)
+}
+
+// What the line of a number begins with. (A line's number is its kind: 1, 2, and all behind.)
+fn keyword(line: usize) -> &'static str {
+    match line {
+        1 => "prefix=",
+        2 => "loop=",
+        _ => "entry= or ask=",
+    }
+}
+
+// What a line has behind its keyword: numbers, how many if that is fixed, and how large they may be.
+#[derive(Clone, Copy)]
+struct Fields<'a> {
+    bytes: &'a [u8],
+    numbers: &'a [u8],
+    count: Option<usize>,
+    max: u32,
+    ghost inside: { length numbers.now ≤ length bytes.now },
+}
+
+impl<'a> Fields<'a> {
+    // Those of the line of a number, which is its kind, if it has a keyword of its own.
+    fn of(bytes: &'a [u8], line: usize) -> Option<Fields<'a>> {
+        match line {
+            1 => Fields::behind(bytes, b"prefix=", None, u32::MAX),
+            2 => Fields::behind(bytes, b"loop=", None, u32::MAX),
+            _ => {
+                let entry = Fields::behind(bytes, b"entry=", Some(3), 255);
+                entry.or(Fields::behind(bytes, b"ask=", Some(2), 65535))
+            }
+        }
+    }
+
+    fn behind(
+        bytes: &'a [u8],
+        keyword: &[u8],
+        count: Option<usize>,
+        max: u32,
+    ) -> Option<Fields<'a>> {
+        Some(Fields {
+            bytes,
+            numbers: bytes.strip_prefix(keyword)?,
+            count,
+            max,
+        })
+    }
+
+    // What is wrong: numbers with commas between them are passed as far as they are right, and counted.
+    fn fault(self) -> Fault {
+        let mut left = self.numbers;
+        let mut found = 0;
+        while let Some(numeral) = number(left, self.max) {
+            found += 1;
+            left = &left[numeral.next..];
+            let Some(others) = left.strip_prefix(&[COMMA]) else {
+                return self.fault_at(left).unwrap_or(self.fault_of(found));
+            };
+            left = others;
+        }
+        let ended = if found == 0 {
+            self.fault_of(found)
+        } else {
+            Fault::LastComma
+        };
+        self.fault_at(left).unwrap_or(ended)
+    }
+
+    // What is wrong with the first of the bytes that are left, if any are.
+    fn fault_at(self, left: &[u8]) -> Option<Fault>
+        requires { length left.now ≤ length self.bytes.now }
+    {
+        Some(Fault::Byte {
+            byte: *left.first()?,
+            place: self.bytes.len() - left.len() + 1,
+            max: self.max,
+        })
+    }
+
+    // What is wrong where the numbers are right: how many were found, or that nothing ends the line.
+    fn fault_of(self, found: usize) -> Fault {
+        match self.count {
+            Some(wanted) if wanted != found => Fault::Count { wanted, found },
+            _ => Fault::Newline,
+        }
     }
 }

@@ -5,7 +5,8 @@ ghost use Rattle.std.specs.Io.KnownBytes.{Consumes, IsAtEnd};
 use std::io;
 use std::io::{ErrorKind, Read};
 
-// How many bytes came, and whether reading them went well to its end.
+// How many bytes came, and whether reading them went well to its end. What came before an error is wanted
+// too, so the length stands beside the result and not in it.
 #[derive(Drop)]
 pub struct Input {
     pub len: usize,
@@ -13,7 +14,7 @@ pub struct Input {
 }
 
 // The bytes that came are the next of the input, in whatever pieces it gives them. A read that a signal cuts
-// short is made again; another one that fails is where the input ends.
+// short is made again; another one that fails is where the input ends. (The count only bounds the loop.)
 pub fn read_all<R: Read>(input: &mut R, text: &mut [u8]) -> Input
     ensures within { result.len ≤ length text.new }
     ensures bytes { OnOk result.end (Consumes (R.remaining input.old) (R.remaining input.new)

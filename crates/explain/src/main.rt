@@ -5,9 +5,10 @@
 mod hints;
 mod input;
 mod refusals;
-mod saying;
 
 use explain_text::MAX_TEXT;
+use input::{Input, read_all};
+use refusals::say_refusal;
 use rendering::MAX_OUTPUT;
 use schedule::{MAX_WORDS, WORK_LENGTH};
 use std::io;
@@ -20,17 +21,19 @@ fn main(rt: HostRuntime) -> ExitCode {
     let mut work = [0u16; WORK_LENGTH];
     let mut tree = [0u32; MAX_WORDS];
     let mut out = [0u8; MAX_OUTPUT];
-    let read = input::read_all(&mut rt.stdin(), &mut text);
-    let n = read.len;
-    let len = explain_text::explain(&text[..n], &mut work, &mut tree, &mut out);
-    if let Err(error) = rt.stdout().lock().write_all(&out[..len]) {
+    let Input { len, end } = read_all(&mut rt.stdin(), &mut text);
+    let text = &text[..len];
+    let len = explain_text::explain(text, &mut work, &mut tree, &mut out);
+    let out = &out[..len];
+    // no `?`: what failed is said first, and the answer is an exit status
+    if let Err(error) = rt.stdout().lock().write_all(out) {
         return failed(&rt, "standard output", error);
     }
     // a text that was not read to its end counts as ended, and nothing more is said of it
-    if let Err(error) = read.end {
+    if let Err(error) = end {
         return failed(&rt, "standard input", error);
     }
-    refusals::say_refusal(&rt, &text[..n], &out[..len]);
+    say_refusal(&rt, text, out);
     ExitCode::SUCCESS
 }
 

@@ -1,18 +1,19 @@
 -- What the text program's output is, a law a return: 14, 13, or what write answers
 -- to the question that was read.
-use mathlib.Core.Path.{◌≡◌, refl, sym, ap, subst, ◌∙◌}
+use mathlib.Core.Path.{◌≡◌, refl, ap, subst, ◌∙◌}
 use mathlib.Core.List.{List}
 use Prim.Native.Nat.{ℕ, ◌+◌, ◌<◌, ◌≤◌, min}
 use native.Mathlib.Omega.{arith}
 use lib.ListN.{length, take, drop, length-append, length-take}
 use lib.Seq.{take-append_seam}
+use Rattle.std.specs.Prelude.{Result, Ok, Err}
 use Rattle.schedule.specs.Figures.{Figures}
 use Rattle.asking.specs.Answers.{figures_of}
 use Rattle.asking.specs.Questions.{Question, question}
 use Rattle.schedule.specs.Limits.{max_words}
 use Rattle.wording.specs.Wrote.{Written, unwritten, too_short, written, Wrote}
-use Rattle.asking.specs.declared.Outcome.{Outcome}
-use Rattle.asking.specs.declared.Outcome.TheVariants.{Refused, NotValid, Judged}
+use Rattle.asking.specs.declared.Refusal.{Refusal}
+use Rattle.asking.specs.declared.Judged.{Judged}
 use Rattle.finding.proofs.Working.{worked-answer, worked-passed}
 use Rattle.questions.specs.Texts.{ask_key, Said, Line, prefixed, looped, entered, RightLines, begun, further}
 use Rattle.questions.specs.Texts.{WrongLine, stuck, goes_on}
@@ -29,24 +30,16 @@ use Rattle.schedule.proofs.Buffers.{put_front}
 use Rattle.schedule.specs.Buffers.{put}
 
 -- What is kept of a list: its beginning.
-module _ (size : ℕ) (found ns : List ℕ) (n : ℕ) (e : n ≡ min (length ns) size) where
-  cut-is : length (take size ns) ≡ n
-  cut-is = omega (arith, e, length-take size ns)
+pub kept-count : (size : ℕ) {count n : ℕ} (ns : List ℕ) → n ≡ min count size → count ≡ length ns
+    → n ≡ length (take size ns)
+kept-count size ns e counted = e ∙ ap (λ c. min c size) counted ∙ omega (arith, length-take size ns)
 
-  pub kept-room : n ≤ length (put 0 (take size ns) found)
-  kept-room =
-      omega (
-        arith,
-        cut-is,
-        ap length (put_front (take size ns) found),
-        length-append (take size ns) (drop (length (take size ns)) found),
-      )
-
-  pub kept-front : take n (put 0 (take size ns) found) ≡ take size ns
-  kept-front =
-      ap (λ k. take k (put 0 (take size ns) found)) (sym cut-is)
-      ∙ ap (take (length (take size ns))) (put_front (take size ns) found)
-      ∙ take-append_seam (take size ns) (drop (length (take size ns)) found)
+pub kept-front : (size : ℕ) {count n : ℕ} (ns found : List ℕ) {left : List ℕ} → n ≡ min count size
+    → count ≡ length ns → left ≡ put 0 (take size ns) found → take n left ≡ take size ns
+kept-front size ns found e counted is =
+    let kept = take size ns in
+    (λ i. take (kept-count size ns e counted i) ((is ∙ put_front kept found) i))
+    ∙ take-append_seam kept (drop (length kept) found)
 
 -- A line has a byte at least, so there are no more lines than bytes.
 line-some : {k : ℕ} {s t : Said} {bs : List ℕ} → Line k s bs t → 1 ≤ length bs
@@ -83,11 +76,11 @@ module _ {q : Question} {tree left : List ℕ} where
     omega (arith, ap length (is ∙ put_front words tree), length-append words (drop (length words) tree)),
   )
 
-  pub wrote-few : {work work_left : List ℕ} (o : Outcome) → Wrote q work work_left tree left (figures_of o)
+  pub wrote-few : {work work_left : List ℕ} (o : Result Judged Refusal)
+      → Wrote q work work_left tree left (figures_of o)
       → ((figures_of o).size ≤ max_words) × ((figures_of o).size ≤ length left)
-  wrote-few (Refused x) w = (omega arith, omega arith)
-  wrote-few (NotValid p) w = (omega arith, omega arith)
-  wrote-few (Judged v n) w = written-few (worked-answer (worked-passed refl w.answer) w.answer)
+  wrote-few (Err x) w = (omega arith, omega arith)
+  wrote-few (Ok j) w = written-few (worked-answer (worked-passed refl w.answer) w.answer)
 
 module _ {text work tree out out_left : List ℕ} {r : ℕ} where
   pub output-long : max_text < length text → Placed LongText 0 out out_left r
@@ -111,36 +104,10 @@ pub output-answered : {text work work_left tree tree_left out out_left : List �
 output-answered {work = work} {work_left} {tree} {tree_left} {pf = pf} {pn} {lf} {ln} {tf} {tn} {q} {figures}
     {n} {m} {k} le u en em ek w =
     let s = u.says in
-    let front = ap (take n) u.prefix-kept
-    ∙ kept-front 49 pf s.prefix n (en ∙ ap (λ c. min c 49) u.prefix) in
-    let loop = ap (take m) u.loop-kept
-    ∙ kept-front 49 lf s.loop m (em ∙ ap (λ c. min c 49) u.looped) in
-    let table = ap (take k) u.table_kept
-    ∙ kept-front 33 tf s.table k (ek ∙ ap (λ c. min c 33) u.entries) in
+    let front = kept-front 49 s.prefix pf en u.prefix u.prefix-kept in
+    let loop = kept-front 49 s.loop lf em u.looped u.loop-kept in
+    let table = kept-front 33 s.table tf ek u.entries u.table_kept in
     let capped = subst (λ a. Wrote a work work_left tree tree_left figures)
     (λ j. question (front j) (loop j) (table j) q.entry q.position) w in
     placed-as (λ bs t. Explained.answered s q.entry q.position u.lines figures le u.whole
     (capped-wrote s.prefix s.loop s.table q.entry q.position capped) t)
-
--- room for the lists that are lent
-module _ {text pf pn lf ln tf tn : List ℕ} {q : TextRead} (u : Understood text pf pn lf ln tf tn q) where
-  pub prefix-room : {n : ℕ} → n ≡ min q.prefix 49 → n ≤ length pn
-  prefix-room {n} e = omega (
-    arith,
-    kept-room 49 pf u.says.prefix n (e ∙ ap (λ c. min c 49) u.prefix),
-    ap length u.prefix-kept,
-  )
-
-  pub loop-room : {n : ℕ} → n ≡ min q.looped 49 → n ≤ length ln
-  loop-room {n} e = omega (
-    arith,
-    kept-room 49 lf u.says.loop n (e ∙ ap (λ c. min c 49) u.looped),
-    ap length u.loop-kept,
-  )
-
-  pub table-room : {n : ℕ} → n ≡ min q.entries 33 → n ≤ length tn
-  table-room {n} e = omega (
-    arith,
-    kept-room 33 tf u.says.table n (e ∙ ap (λ c. min c 33) u.entries),
-    ap length u.table_kept,
-  )

@@ -1,29 +1,18 @@
 // The text program as a function on bytes: the text of a question in, the text of its answer out.
 #![tactic(auto)]
 
-ghost use Rattle.std.specs.Prelude.{◌≡◌, min};
 ghost use Rattle.explain_text.specs.Explained.{Explained};
 
+use asking::LentQuestion;
+use questions::{KEPT_ENTRIES, KEPT_LETTERS, read_text};
 use rendering::MAX_OUTPUT;
-use schedule::{MAX_WORDS, WORK_LENGTH};
+use schedule::{LentLetters, MAX_WORDS, WORK_LENGTH};
+use wording::write;
 
 pub const MAX_TEXT: usize = 8192;
 
-// Letters and entries that are kept: more than any question may have, so that too many still show.
-const KEPT_LETTERS: usize = 49;
-
-const KEPT_ENTRIES: usize = 33;
-
-fn smaller(a: usize, b: usize) -> usize
-    ensures { result ≡ min a b }
-{
-    if a < b {
-        return a;
-    }
-    b
-}
-
-// The output for a text of any bytes: how many bytes of it stand in the buffer.
+// The output for a text of any bytes: how many bytes of it stand in the buffer. (Buffers and a length, as the
+// call from C lends and wants them.)
 pub fn explain(
     text: &[u8],
     work: &mut [u16; WORK_LENGTH],
@@ -39,21 +28,21 @@ pub fn explain(
     let mut prefix = [0u32; KEPT_LETTERS];
     let mut looped = [0u32; KEPT_LETTERS];
     let mut table = [0u32; KEPT_ENTRIES];
-    let question = questions::read_text(text, &mut prefix, &mut looped, &mut table);
-    if question.wrong {
-        return rendering::wrong_text(out, question.line);
+    match read_text(text, &mut prefix, &mut looped, &mut table) {
+        Err(bad) => rendering::wrong_text(out, bad.line),
+        Ok(said) => {
+            let letters = LentLetters {
+                prefix: &prefix[..said.prefix.min(KEPT_LETTERS)],
+                looped: &looped[..said.looped.min(KEPT_LETTERS)],
+            };
+            let question = LentQuestion {
+                letters,
+                table: &table[..said.entries.min(KEPT_ENTRIES)],
+                entry: said.entry,
+                position: said.position,
+            };
+            let outcome = write(question, work, tree);
+            rendering::rendered(out, outcome, tree)
+        }
     }
-    let in_prefix = smaller(question.prefix, KEPT_LETTERS);
-    let in_loop = smaller(question.looped, KEPT_LETTERS);
-    let entries = smaller(question.entries, KEPT_ENTRIES);
-    let outcome = wording::write(
-        &prefix[..in_prefix],
-        &looped[..in_loop],
-        &table[..entries],
-        question.entry,
-        question.position,
-        work,
-        tree,
-    );
-    rendering::rendered(out, outcome, tree)
 }

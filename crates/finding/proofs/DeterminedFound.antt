@@ -9,7 +9,7 @@ use lib.ListN.{length}
 use Rattle.schedule.specs.Figures.{Figures}
 use Rattle.schedule.specs.Tests.{AllPass, FirstFails}
 use Rattle.schedule.proofs.Tests.{fails-or-passes}
-use Rattle.trees.specs.Nodes.{Node}
+use Rattle.trees.specs.declared.Node.{Node}
 use Rattle.trees.specs.Trees.{Tree}
 use Rattle.trees.specs.declared.Verdict.{Verdict}
 use Rattle.trees.proofs.Needs.{sign-one}

@@ -4,7 +4,7 @@ use mathlib.Core.Path.{◌≡◌}
 use mathlib.Core.Logic.{by_cases}
 use mathlib.Core.List.{List}
 use Rattle.schedule.specs.Tests.{AllPass}
-use Rattle.trees.specs.Nodes.{Node}
+use Rattle.trees.specs.declared.Node.{Node}
 use Rattle.trees.specs.Trees.{Tree}
 use Rattle.trees.specs.Means.{Means}
 use Rattle.trees.specs.declared.Verdict.{Verdict}

@@ -1,17 +1,16 @@
 -- What truth and find answer from the cell that is looked up.
 use mathlib.Core.Path.{◌≡◌, sym, ap, subst, ◌∙◌}
-use mathlib.Core.Bool.{cond}
 use mathlib.Core.List.{List}
 use Prim.Native.Nat.{ℕ, ◌<◌, ◌≤◌}
 use native.Mathlib.Omega.{arith}
-use borrow.Author.Tests.{lt-ltb, le-ltb, ltb-true, ltb-false}
+use borrow.Author.Tests.{ltb-true, ltb-false}
 use lib.Dec.{ltb}
 use lib.ListN.{length}
-use Rattle.schedule.specs.Figures.{Figures, refusal}
+use Rattle.std.specs.Prelude.{Result, Ok, Err}
+use Rattle.schedule.specs.Figures.{Figures}
 use Rattle.rules.proofs.Entries.{cond-elim}
-use Rattle.trees.specs.Nodes.{Node}
+use Rattle.trees.specs.declared.Node.{Node}
 use Rattle.trees.specs.Least.{ones}
-use Rattle.trees.specs.declared.Verdict.{Verdict}
 use Rattle.trees.proofs.Order.{cost-ones}
 use Rattle.theory.specs.inside.Frames.{Lawful}
 use Rattle.theory.specs.inside.Costs.{cut_off}
@@ -20,7 +19,8 @@ use Rattle.theory.proofs.Sound.{schedule-lawful}
 use Rattle.theory.proofs.Prices.{price-verdict, price-least, price-large}
 use Rattle.theory.proofs.LeastExists.{schedule-least-exists}
 use Rattle.roots.specs.inside.Rooted.{cell_price}
-use Rattle.asking.specs.Answers.{number_of, verdict_with}
+use Rattle.asking.specs.Answers.{verdict_with, figures_of}
+use Rattle.asking.specs.Answers as figures
 use Rattle.asking.specs.Questions.{Question, frame_in, formula_in, claim_in}
 use Rattle.schedule.specs.Limits.{max_words}
 use Rattle.finding.specs.Worked.{Worked, refused, answered}
@@ -29,28 +29,9 @@ use Rattle.finding.specs.Found.{LeastIn, AllLarge, LeastSize, too_large, least, 
 use Rattle.looking.specs.inside.Looked.{verdict_in, CellIn, Looked, refuses, sees}
 use Rattle.finding.specs.inside.Telling.{told_by, found_by}
 use Rattle.asking.specs.declared.Refusal.{Refusal}
-use Rattle.looking.specs.declared.Look.{Look}
-use Rattle.looking.specs.declared.Look.TheVariants.{Refused, Cell}
+use Rattle.asking.specs.declared.Judged.{Judged}
 use Rattle.asking.proofs.Limits.{work-loop}
 use Rattle.looking.proofs.Looking.{cell-means, cell-price}
-
--- The figures from there.
-module _ (cell : ℕ) where
-  pub told-verdict : (v : Verdict) → v ≡ verdict_in cell → verdict_with v 0 ≡ told_by cell
-  unfolding told_by
-  told-verdict v e = ap (λ w. verdict_with w 0) e
-
-  pub found_none : (n : ℕ) → n ≡ cell_price cell → max_words < n → refusal 11 ≡ found_by cell
-  unfolding found_by
-  found_none n e lt = simp (lt-ltb max_words (cell_price cell) (omega (arith, lt, e)))
-
-  pub cell-least : (v : Verdict) (n : ℕ) → v ≡ verdict_in cell → n ≡ cell_price cell → n ≤ max_words
-      → verdict_with v n ≡ found_by cell
-  unfolding found_by
-  cell-least v n ev en le =
-      (λ k. verdict_with (ev k) (en k))
-      ∙ sym (ap (λ b. cond b (refusal 11) (verdict_with (verdict_in cell) (cell_price cell)))
-      (le-ltb max_words (cell_price cell) (omega (arith, le, en))))
 
 module _ (q : Question) {cell : ℕ} (c : CellIn q cell) where
   cell-told : Meaning q (told_by cell)
@@ -93,23 +74,27 @@ module _ (q : Question) {cell : ℕ} (c : CellIn q cell) where
         subst (LeastSize q) (λ k. verdict_with (verdict k) (size k)) (least l (omega (arith, size, few))))
 
 -- and the answers from there
-module _ {q : Question} {found left : List ℕ} {look : Look} (looked : Looked q found left look) where
-  pub looked-refused : {Answered : Figures → Type 0} {x : Refusal} → look ≡ Refused x
-      → Worked q found left Answered (refusal (number_of x))
-  looked-refused {Answered} {x} is = by (subst (Looked q found left) is looked)
+module _ {q : Question} {found left : List ℕ} {look : Result ℕ Refusal}
+    (looked : Looked q found left look) where
+  pub looked-refused : {Answered : Figures → Type 0} {outcome : Result Judged Refusal} {x : Refusal}
+      → look ≡ Err x → (y : Refusal) × (outcome ≡ Err y) × (y ≡ x)
+      → Worked q found left Answered (figures_of outcome)
+  looked-refused {Answered} {x = x} is (y, errs, same) =
+      subst (λ o. Worked q found left Answered (figures_of o)) (sym (errs ∙ ap Err same))
+      (by (subst (Looked q found left) is looked))
     where
-      by : Looked q found left (Refused x) → Worked q found left Answered (refusal (number_of x))
+      by : Looked q found left (Err x) → Worked q found left Answered (figures.refused x)
       by (refuses f l) = refused f l
 
-  pub looked-told : {cell : ℕ} {r : Figures} → look ≡ Cell cell → r ≡ told_by cell → Told q found left r
+  pub looked-told : {cell : ℕ} {r : Figures} → look ≡ Ok cell → r ≡ told_by cell → Told q found left r
   looked-told {cell} {r} is same = by (subst (Looked q found left) is looked)
     where
-      by : Looked q found left (Cell cell) → Told q found left r
+      by : Looked q found left (Ok cell) → Told q found left r
       by (sees ps l c) = answered ps l (subst (Meaning q) (sym same) (cell-told q c))
 
-  pub looked-found : {cell : ℕ} {r : Figures} → look ≡ Cell cell → r ≡ found_by cell → Found q found left r
+  pub looked-found : {cell : ℕ} {r : Figures} → look ≡ Ok cell → r ≡ found_by cell → Found q found left r
   looked-found {cell} {r} is same = by (subst (Looked q found left) is looked)
     where
-      by : Looked q found left (Cell cell) → Found q found left r
+      by : Looked q found left (Ok cell) → Found q found left r
       by (sees ps l c) =
           answered ps l (subst (LeastSize q) (sym same) (cell-found q c (work-loop q (length found) ps)))

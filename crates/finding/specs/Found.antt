@@ -2,7 +2,7 @@
 -- and the size of the least tree.
 use Rattle.std.specs.Prelude.{ℕ, ◌<◌, ◌≤◌, List, length}
 use Rattle.schedule.specs.Figures.{Figures, refusal}
-use Rattle.trees.specs.Nodes.{Node}
+use Rattle.trees.specs.declared.Node.{Node}
 use Rattle.trees.specs.Trees.{Tree}
 use Rattle.trees.specs.Least.{ones, Least}
 use Rattle.trees.specs.declared.Verdict.{Verdict}

@@ -1,53 +1,46 @@
 // The form of a word of a tree, by cases on its rule.
 #![tactic(auto)]
 
-ghost use Rattle.std.specs.Prelude.{◌≡◌, ◌≤◌};
-ghost use Rattle.forms.specs.inside.Forms.{form_from, form_of};
+ghost use Rattle.std.specs.Prelude.{◌≡◌};
+ghost use Rattle.forms.specs.inside.Forms.{form_of};
 
-// A word by its rule: what its fields say, or that its form fits no rule.
+use trees::Node;
+
+// What the fields of a word say, by its rule. A rule is its number: the cases below are ranges of it.
 #[derive(Clone, Copy)]
 pub enum Form {
-    AtomForm(usize, usize, usize),
-    PlainForm(usize),
-    CountedForm(usize, usize),
-    Malformed,
+    Atom {
+        rule: usize,
+        atom: usize,
+        position: usize,
+    },
+    Plain {
+        rule: usize,
+    },
+    Counted {
+        rule: usize,
+        count: usize,
+    },
 }
 
-// Rules 3 to 10 have neither an atom nor a number.
-fn plain(rule: usize, atom: usize, number: usize) -> Form
-    requires { (3 ≤ rule) × (rule ≤ 10) }
-    ensures { result ≡ form_from rule atom number }
-{
-    if atom == 0 {
-        if number == 0 {
-            return Form::PlainForm(rule);
-        }
-    }
-    Form::Malformed
-}
-
-// Rules 11 to 16 have a count alone.
-fn counted(rule: usize, atom: usize, number: usize) -> Form
-    requires { (11 ≤ rule) × (rule ≤ 16) }
-    ensures { result ≡ form_from rule atom number }
-{
-    if atom == 0 {
-        return Form::CountedForm(rule, number);
-    }
-    Form::Malformed
-}
-
-// A word, by cases on its rule number.
-pub fn form_of(word: u32) -> Form
+// A word, by cases on its rule number: rules 3 to 10 have neither an atom nor a number, 11 to 16 have a count
+// alone. None where its form fits no rule.
+#[tactic(auto, unfolding(crate::specs::inside::Forms::form_of, crate::specs::inside::Forms::form_from))]
+pub fn form_of(word: u32) -> Option<Form>
     ensures { result ≡ form_of word }
 {
-    let rule = (word / 16777216) as usize;
-    let atom = (word / 65536 % 256) as usize;
-    let number = (word % 65536) as usize;
+    let Node { rule, atom, number } = Node::from(word);
     match rule {
-        1..=2 => Form::AtomForm(rule, atom, number),
-        3..=10 => plain(rule, atom, number),
-        11..=16 => counted(rule, atom, number),
-        _ => Form::Malformed,
+        1..=2 => Some(Form::Atom {
+            rule,
+            atom,
+            position: number,
+        }),
+        3..=10 if atom == 0 && number == 0 => Some(Form::Plain { rule }),
+        11..=16 if atom == 0 => Some(Form::Counted {
+            rule,
+            count: number,
+        }),
+        _ => None,
     }
 }

@@ -7,7 +7,7 @@ use native.Mathlib.Omega.{arith}
 use lib.ListN.{get_or}
 use Rattle.rules.specs.Formula.{Formula, height}
 use Rattle.rules.specs.Tables.{entry_at, applied, joined, build, formula_of}
-use Rattle.heights.specs.inside.Descents.{adds_of, parts_of}
+use Rattle.heights.specs.inside.Additions.{adds_of}
 use Rattle.rules.specs.declared.Side.{Side}
 use Rattle.rules.specs.declared.Side.TheVariants.{Past, Future}
 use Rattle.rules.specs.declared.Entry.{Entry}
@@ -16,8 +16,6 @@ use Rattle.rules.specs.declared.Unary.{Unary}
 use Rattle.rules.specs.declared.Unary.TheVariants.{Not}
 use Rattle.rules.specs.declared.Binary.{Binary}
 use Rattle.rules.specs.declared.Binary.TheVariants.{Or, And, Since, Until}
-use Rattle.heights.specs.declared.Descent.{Descent}
-use Rattle.heights.specs.declared.Descent.TheVariants.{Leaf, Down}
 use Rattle.rules.proofs.Entries.{PartsBelow, parts-earlier}
 use Rattle.rules.proofs.Unrolls.{formula-unrolls}
 
@@ -29,17 +27,15 @@ adds-small Future Since = omega arith
 adds-small Past Until = omega arith
 adds-small Future Until = omega arith
 
-pub parts-two : (s : Side) (x : Entry) (op : Binary) (l r a : ℕ) → x ≡ Two op l r → a ≡ adds_of s op
-    → Down l r a ≡ parts_of s x
-parts-two s x op l r a p q = ap (Down l r) q ∙ ap (parts_of s) (sym p)
+-- the height of an entry, by the heights of its parts
+abbrev pub height_by : Side → (ℕ → ℕ) → Entry → ℕ
+height_by s part (Atom a) = 0
+height_by s part (One op l) = part l
+height_by s part (Two op l r) = max (part l) (part r) + adds_of s op
+height_by s part Broken = 0
 
-abbrev descended : Side → (ℕ → Formula) → Descent → ℕ
-descended s part Leaf = 0
-descended s part (Down l r a) = max (height s (part l)) (height s (part r)) + a
-
-turned-height : (s : Side) (op : Unary) (f : Formula)
-    → height s (applied op f) ≡ max (height s f) (height s f) + 0
-turned-height s Not f = omega arith
+applied-height : (s : Side) (op : Unary) (f : Formula) → height s (applied op f) ≡ height s f
+applied-height s Not f = refl
 
 joined-height : (s : Side) (op : Binary) (f g : Formula)
     → height s (joined op f g) ≡ max (height s f) (height s g) + adds_of s op
@@ -49,64 +45,46 @@ joined-height s Since f g = refl
 joined-height s Until f g = refl
 
 build-height : (s : Side) (part : ℕ → Formula) (x : Entry)
-    → height s (build part x) ≡ descended s part (parts_of s x)
+    → height s (build part x) ≡ height_by s (λ p. height s (part p)) x
 build-height s part (Atom a) = refl
-build-height s part (One op l) = turned-height s op (part l)
+build-height s part (One op l) = applied-height s op (part l)
 build-height s part (Two op l r) = joined-height s op (part l) (part r)
 build-height s part Broken = refl
 
-abbrev DownBelow : ℕ → Descent → Type 0
-DownBelow e Leaf = Unit
-DownBelow e (Down l r a) = (l < e) × (r < e) × (a ≤ 1)
+by-bound : (s : Side) (part : ℕ → ℕ) (e : ℕ) → ((p : ℕ) → p < e → part p ≤ p) → (x : Entry) → PartsBelow e x
+    → height_by s part x ≤ e
+by-bound s part e low (Atom a) h = omega arith
+by-bound s part e low (One op l) h = omega (arith, low l h)
+by-bound s part e low (Two op l r) h = omega (arith, low l h.0, low r h.1, adds-small s op)
+by-bound s part e low Broken h = omega arith
 
-parts_below : (s : Side) (e : ℕ) (x : Entry) → PartsBelow e x → DownBelow e (parts_of s x)
-parts_below s e (Atom a) h = tt
-parts_below s e (One op l) h = (h, h, omega arith)
-parts_below s e (Two op l r) h = (h.0, h.1, adds-small s op)
-parts_below s e Broken h = tt
+module _ (s : Side) (table : List ℕ) where
+  abbrev pub high : ℕ → ℕ
+  high e = height s (formula_of table e)
 
-module _ (s : Side) (table : List ℕ) (e : ℕ) where
-  height-descends : height s (formula_of table e)
-      ≡ descended s (formula_of table) (parts_of s (entry_at table e))
-  height-descends =
+  pub height-descends : (e : ℕ) → high e ≡ height_by s high (entry_at table e)
+  height-descends e =
       ap (height s) (formula-unrolls table e) ∙ build-height s (formula_of table) (entry_at table e)
 
-  pub height-leaf : parts_of s (entry_at table e) ≡ Leaf → 0 ≡ height s (formula_of table e)
-  height-leaf p = sym (height-descends ∙ ap (descended s (formula_of table)) p)
+  bound-below : (n e : ℕ) → e < n → high e ≤ e
+  bound-below zero e lt = absurd (not-suc-le-zero lt)
+  bound-below (suc n) e lt =
+      subst (λ h. h ≤ e) (sym (height-descends e))
+      (by-bound s high e (λ p pe. bound-below n p (omega arith)) (entry_at table e)
+      (parts-earlier e (get_or table e 0)))
 
-  pub height-down : (l r a : ℕ) → parts_of s (entry_at table e) ≡ Down l r a
-      → max (height s (formula_of table l)) (height s (formula_of table r)) + a
-      ≡ height s (formula_of table e)
-  height-down l r a p = sym (height-descends ∙ ap (descended s (formula_of table)) p)
+  pub height_bound : (e : ℕ) → high e ≤ e
+  height_bound e = bound-below (suc e) e (le_refl (suc e))
 
-  pub down-below : (l r a : ℕ) → parts_of s (entry_at table e) ≡ Down l r a → (l < e) × (r < e) × (a ≤ 1)
-  down-below l r a p =
-      subst (DownBelow e) p (parts_below s e (entry_at table e) (parts-earlier e (get_or table e 0)))
+  -- of an entry that is known
+  module _ (e : ℕ) {x y : Entry} (is : x ≡ entry_at table e) (same : x ≡ y) where
+    pub height-known : height_by s high y ≡ high e
+    height-known = sym (height-descends e ∙ ap (height_by s high) (sym is ∙ same))
 
-descended-bound : (s : Side) (part : ℕ → Formula) (e : ℕ) → ((p : ℕ) → p < e → height s (part p) ≤ p)
-    → (d : Descent) → DownBelow e d → descended s part d ≤ e
-descended-bound s part e low Leaf h = omega arith
-descended-bound s part e low (Down l r a) h = omega (arith, low l h.0, low r h.1)
+    pub parts-known : PartsBelow e y
+    parts-known = subst (PartsBelow e) (sym is ∙ same) (parts-earlier e (get_or table e 0))
 
-height-bound-below : (n : ℕ) (s : Side) (table : List ℕ) (e : ℕ) → e < n → height s (formula_of table e) ≤ e
-height-bound-below zero s table e lt = absurd (not-suc-le-zero lt)
-height-bound-below (suc n) s table e lt =
-    subst (λ h. h ≤ e) (sym (height-descends s table e))
-    (descended-bound s (formula_of table) e (λ p pe. height-bound-below n s table p (omega arith))
-    (parts_of s (entry_at table e)) (parts_below s e (entry_at table e) (parts-earlier e (get_or table e 0))))
-
-pub height_bound : (s : Side) (table : List ℕ) (e : ℕ) → height s (formula_of table e) ≤ e
-height_bound s table e = height-bound-below (suc e) s table e (le_refl (suc e))
-
--- what the routine returns where both parts are one entry, and where they are two
-module _ (s : Side) (table : List ℕ) (e l r a : ℕ) (down : parts_of s (entry_at table e) ≡ Down l r a) where
-  pub height-once : (x : ℕ) → l ≡ r → x ≡ height s (formula_of table l)
-      → x + a ≡ height s (formula_of table e)
-  height-once x lr p =
-      let q : height s (formula_of table r) ≡ height s (formula_of table l)
-      = ap (λ k. height s (formula_of table k)) (sym lr) in
-      omega (arith, height-down s table e l r a down)
-
-  pub height-twice : (x y z : ℕ) → x ≡ height s (formula_of table l) → y ≡ height s (formula_of table r)
-      → z ≡ max x y → z + a ≡ height s (formula_of table e)
-  height-twice x y z p q m = omega (arith, height-down s table e l r a down)
+  -- both parts are one entry
+  pub height-once : (e : ℕ) {x : Entry} {op : Binary} {l r : ℕ} → x ≡ entry_at table e → x ≡ Two op l r
+      → l ≡ r → high l + adds_of s op ≡ high e
+  height-once e {x} {op} {l} {r} is same lr = omega (arith, height-known e is same, ap high lr)

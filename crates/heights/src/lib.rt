@@ -1,84 +1,42 @@
 // The two heights of an entry, worked out by following its parts down, and whether all are within the limit.
 #![tactic(auto)]
 
-ghost use Rattle.std.specs.Prelude.{◌≡◌, ◌<◌, max, length};
-ghost use Rattle.rules.specs.Formula.{height, since_adds, until_adds};
+ghost use Rattle.std.specs.Prelude.{◌≡◌, ◌<◌, length};
+ghost use Rattle.rules.specs.Formula.{height};
 ghost use Rattle.rules.specs.Tables.{formula_of};
 ghost use Rattle.rules.specs.Low.{low_at, low_all};
-ghost use Rattle.heights.specs.inside.Descents.{adds_of, parts_of};
+ghost use Rattle.heights.specs.inside.Additions.{adds_of};
 
 use rules::{Binary, Entry, Side, entry_at};
 use schedule::Schedule;
-
-fn since_adds(side: Side) -> usize
-    ensures { result ≡ since_adds side }
-{
-    match side {
-        Side::Past => 1,
-        Side::Future => 0,
-    }
-}
-
-fn until_adds(side: Side) -> usize
-    ensures { result ≡ until_adds side }
-{
-    match side {
-        Side::Past => 0,
-        Side::Future => 1,
-    }
-}
 
 // What an operator adds to the greater height of its two parts.
 fn adds(op: Binary, side: Side) -> usize
     ensures { result ≡ adds_of side op }
 {
-    match op {
-        Binary::Or => 0,
-        Binary::And => 0,
-        Binary::Since => since_adds(side),
-        Binary::Until => until_adds(side),
+    match (op, side) {
+        (Binary::Since, Side::Past) | (Binary::Until, Side::Future) => 1,
+        _ => 0,
     }
 }
 
-// Where a height is followed down: two parts and what the entry adds to the greater.
-#[derive(Clone, Copy)]
-enum Descent {
-    Leaf,
-    Down(usize, usize, usize),
-}
-
-fn parts(here: Entry, side: Side) -> Descent
-    ensures { result ≡ parts_of side here }
-{
-    match here {
-        Entry::One(_, l) => Descent::Down(l, l, 0),
-        Entry::Two(op, l, r) => Descent::Down(l, r, adds(op, side)),
-        Entry::Atom(_) => Descent::Leaf,
-        Entry::Broken => Descent::Leaf,
-    }
-}
-
-pub fn larger(a: usize, b: usize) -> usize
-    ensures { result ≡ max a b }
-{
-    if a < b { b } else { a }
-}
-
-// A height of an entry, worked out by following its parts down; once where both are the same entry.
+// A height of an entry, worked out by following its parts down; once where both are the same entry. (What
+// an entry means is said by table and index, in each contract that follows entries down.)
 pub fn height(table: &[u32], entry: usize, side: Side) -> usize
     ensures { result ≡ height side (formula_of table.now entry) }
 {
-    let Descent::Down(left, right, adds) = parts(entry_at(table, entry), side) else {
-        return 0;
-    };
-    let a = height(table, left, side);
-    if left == right {
-        return a + adds;
+    match entry_at(table, entry) {
+        Entry::Atom(_) | Entry::Broken => 0,
+        Entry::One(_, part) => height(table, part, side),
+        Entry::Two(op, left, right) if left == right => height(table, left, side) + adds(op, side),
+        Entry::Two(op, left, right) => {
+            height(table, left, side).max(height(table, right, side)) + adds(op, side)
+        }
     }
-    larger(a, height(table, right, side)) + adds
 }
 
 // Whether the two heights of an entry add up to no more than the limit.
+#[tactic(auto, using(crate::proofs::Heights::height_bound))]
 fn low(table: &[u32], entry: usize) -> bool
     requires { entry < length table.now }
     ensures { result ≡ low_at table.now entry }
@@ -90,12 +48,5 @@ fn low(table: &[u32], entry: usize) -> bool
 pub fn all_low(table: &[u32]) -> bool
     ensures { result ≡ low_all table.now }
 {
-    let mut entry = 0;
-    while entry < table.len() {
-        if !low(table, entry) {
-            return false;
-        }
-        entry += 1;
-    }
-    true
+    (0..table.len()).all(|entry| low(table, entry))
 }

@@ -1,7 +1,7 @@
 -- A buffer keeps the first numbers of a list: how a number more is put.
 use mathlib.Core.Path.{◌≡◌, refl, sym, ap, ◌∙◌}
 use mathlib.Core.List.{List, [], ◌∷◌, ◌++◌}
-use Prim.Native.Nat.{ℕ, suc}
+use Prim.Native.Nat.{ℕ}
 use lib.ListN.{length, take, drop, set}
 use Rattle.schedule.specs.Buffers.{put}
 use Rattle.schedule.proofs.Buffers.{put_front}
@@ -20,12 +20,6 @@ front-more [] (m ∷ ns) n = refl
 front-more (x ∷ found) [] n = ap (λ l. n ∷ l) (front-none found)
 front-more (x ∷ found) (m ∷ ns) n = ap (λ l. m ∷ l) (front-more found ns n)
 
-front_length : (found ns : List ℕ) → length (front found ns) ≡ length found
-front_length [] [] = refl
-front_length [] (n ∷ ns) = refl
-front_length (x ∷ found) [] = refl
-front_length (x ∷ found) (n ∷ ns) = ap suc (front_length found ns)
-
 pub kept-none : (found : List ℕ) → found ≡ put 0 (take (length found) []) found
 kept-none found = front-none found ∙ sym (put_front (take (length found) []) found)
 
@@ -36,6 +30,3 @@ kept_more found ns n =
     ap (λ l. set l (length ns) n) (put_front (take (length found) ns) found)
     ∙ front-more found ns n
     ∙ sym (put_front (take (length found) (ns ++ n ∷ [])) found)
-
-pub kept-length : (found ns : List ℕ) → length (put 0 (take (length found) ns) found) ≡ length found
-kept-length found ns = ap length (put_front (take (length found) ns) found) ∙ front_length found ns

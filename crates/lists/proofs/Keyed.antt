@@ -1,17 +1,13 @@
 -- A keyword and what is listed behind it, up to the newline.
 use mathlib.Core.Path.{◌≡◌, refl, sym, ap, subst, ◌∙◌}
-use mathlib.Core.Bool.{true, false}
 use mathlib.Core.List.{List, [], ◌∷◌, ◌++◌, append_assoc, append_cancel_left}
-use Prim.Native.Nat.{ℕ, ◌+◌, ◌<◌, ◌≤◌}
-use native.Mathlib.Numerals.{add-one}
+use Prim.Native.Nat.{ℕ}
 use native.Mathlib.Omega.{arith}
-use lib.ListN.{length, get_or, drop, length-append, drop_of_length-le}
-use lib.Seq.{drop-cons}
-use Rattle.decimals.proofs.Standing.{head_at}
+use lib.ListN.{length, length-append}
 use Rattle.lists.specs.Lines.{line_of, Commas, Letters, none, some}
-use Rattle.lists.specs.inside.Lists.{BytesFor, Ended, Some, Worded, Keyword, Listed, Lists}
+use Rattle.lists.specs.inside.Lists.{BytesFor, Ended, SomeList, Worded, Listed, Lists}
 use Rattle.lists.specs.declared.Listing.{Listing}
-use Rattle.lists.specs.declared.Listing.TheVariants.{Wrong, Read}
+use Rattle.std.specs.Prelude.{Option, Some, None}
 use Rattle.lists.proofs.Splits.{Without, split_one}
 use Rattle.lists.proofs.Numbers.{commas-without, commas-one, letters-without, letters-one}
 use Rattle.lists.proofs.Keeping.{kept-none}
@@ -71,95 +67,82 @@ ended-one {word} {rest} {others} plain e f =
     f.list.list (sym (ended-line e) ∙ ended-line f) in
     (s.numbers, s.behind)
 
-module _ (P : BytesFor) (text : List ℕ) (at : ℕ) (found now : List ℕ) (r : Listing)
-    (l : Lists P text at found now r) where
-  pub lists-wrong : r ≡ Wrong → ¬ Some P (drop at text)
+module _ (P : BytesFor) (text found now : List ℕ) (r : Option Listing) where
+  pub lists-wrong : Lists P text found now r → r ≡ None → ¬ SomeList P text
   unfolding Lists
-  lists-wrong e = subst (Lists P text at found now) e l
+  lists-wrong l e = subst (Lists P text found now) e l
 
-  pub lists-read : {count next : ℕ} → r ≡ Read count next → Listed P text at found now count next
+  pub none-listed : r ≡ None → ¬ SomeList P text → Lists P text found now r
   unfolding Lists
-  lists-read e = subst (Lists P text at found now) e l
+  none-listed e wrong = subst (Lists P text found now) (sym e) wrong
 
-module _ (P : BytesFor) (text : List ℕ) (at : ℕ) (word : List ℕ) where
-  pub word-wrong : Keyword text at word false → ¬ Some (Worded word P) (drop at text)
-  word-wrong k s = k.not_there refl (s.ended.list.fields ++ 10 ∷ s.rest) (ended-fields s.ended)
+pub lists-read : {P : BytesFor} {text found now : List ℕ} {r : Option Listing} {a : Listing}
+    → Lists P text found now r → r ≡ Some a → Listed P text found now a.count a.rest.now
+unfolding Lists
+lists-read {P} {text} {found} {now} l e = subst (Lists P text found now) e l
 
-  module _ (k : Keyword text at word true) where
-    on : {ns rest : List ℕ} → Ended P (drop (at + length word) text) ns rest
-        → Ended (Worded word P) (drop at text) ns rest
-    on {rest} e = record {
-      bytes = word ++ e.bytes;
-      list = record { fields = e.bytes; list = e.list; whole = refl };
-      whole = (k.there refl).0 ∙ ap (λ l. word ++ l) e.whole
-          ∙ sym (append_assoc word e.bytes (10 ∷ rest));
+module _ (P : BytesFor) (text word : List ℕ) where
+  pub word-wrong : ((rest : List ℕ) → ¬ (text ≡ word ++ rest)) → ¬ SomeList (Worded word P) text
+  word-wrong never s = never (s.ended.list.fields ++ 10 ∷ s.rest) (ended-fields s.ended)
+
+  module _ (listed : List ℕ) (e : text ≡ word ++ listed) where
+    on : {ns rest : List ℕ} → Ended P listed ns rest → Ended (Worded word P) text ns rest
+    on {rest} l = record {
+      bytes = word ++ l.bytes;
+      list = record { fields = l.bytes; list = l.list; whole = refl };
+      whole = e ∙ ap (λ l. word ++ l) l.whole ∙ sym (append_assoc word l.bytes (10 ∷ rest));
     }
 
-    back : Some (Worded word P) (drop at text) → Some P (drop (at + length word) text)
+    back : SomeList (Worded word P) text → SomeList P listed
     back s = record {
       numbers = s.numbers;
       rest = s.rest;
       ended = record {
         bytes = s.ended.list.fields;
         list = s.ended.list.list;
-        whole = append_cancel_left word (drop (at + length word) text)
-            (s.ended.list.fields ++ 10 ∷ s.rest) (sym (k.there refl).0 ∙ ended-fields s.ended);
+        whole = append_cancel_left word listed (s.ended.list.fields ++ 10 ∷ s.rest)
+            (sym e ∙ ended-fields s.ended);
       };
     }
 
-    pub word-lists : (found now : List ℕ) (r : Listing) → Lists P text (at + length word) found now r
-        → Lists (Worded word P) text at found now r
+    pub word-lists : (found now : List ℕ) (r : Option Listing) → Lists P listed found now r
+        → Lists (Worded word P) text found now r
     unfolding Lists
-    word-lists found now Wrong wrong = λ s. wrong (back s)
-    word-lists found now (Read count next) l = record {
+    word-lists found now None wrong = λ s. wrong (back s)
+    word-lists found now (Some a) l = record {
       numbers = l.numbers;
       ended = on l.ended;
-      past = omega (arith, l.past);
-      within = l.within;
+      past = omega (arith, l.past, ap length e, length-append word listed);
       counted = l.counted;
       keeps = l.keeps;
     }
 
-module _ (text : List ℕ) (from : ℕ) where
-  pub letters-end : length text ≤ from → ¬ Some Letters (drop from text)
-  letters-end end s =
-      omega (
-        arith,
-        ap length (sym (drop_of_length-le text end) ∙ s.ended.whole),
-        length-append s.ended.bytes (10 ∷ s.rest),
-      )
-
-  pub letters-none : (found : List ℕ) → from < length text → get_or text from 0 ≡ 10
-      → Listed Letters text from found found 0 (from + 1)
-  letters-none found lt e = record {
+module _ (text : List ℕ) where
+  pub letters-none : {rest : List ℕ} (found : List ℕ) → text ≡ 10 ∷ rest
+      → Listed Letters text found found 0 rest
+  letters-none found e = record {
     numbers = [];
-    ended = record {
-      bytes = [];
-      list = none;
-      whole = drop-cons text from 0 lt ∙ (λ i. e i ∷ drop (sym (add-one from) i) text);
-    };
-    past = omega arith;
-    within = omega arith;
+    ended = record { bytes = []; list = none; whole = e };
+    past = omega (arith, ap length e);
     counted = refl;
     keeps = kept-none found;
   }
 
-  begins-other : {bs ns : List ℕ} (rest : List ℕ) → Letters bs ns → ¬ (get_or text from 0 ≡ 10)
-      → drop from text ≡ bs ++ 10 ∷ rest → Some (Commas 4294967295) (drop from text)
-  begins-other rest none other e = absurd (other (sym (head_at text from) ∙ ap (λ l. get_or l 0 0) e))
+  begins-other : {bs ns : List ℕ} (rest : List ℕ) → Letters bs ns → ((rest : List ℕ) → ¬ (text ≡ 10 ∷ rest))
+      → text ≡ bs ++ 10 ∷ rest → SomeList (Commas 4294967295) text
+  begins-other rest none other e = absurd (other rest e)
   begins-other {bs} {ns} rest (some c) other e =
       record { numbers = ns; rest = rest; ended = record { bytes = bs; list = c; whole = e } }
 
-  pub letters-some : (found now : List ℕ) (r : Listing) → ¬ (get_or text from 0 ≡ 10)
-      → Lists (Commas 4294967295) text from found now r → Lists Letters text from found now r
+  pub letters-some : (found now : List ℕ) (r : Option Listing) → ((rest : List ℕ) → ¬ (text ≡ 10 ∷ rest))
+      → Lists (Commas 4294967295) text found now r → Lists Letters text found now r
   unfolding Lists
-  letters-some found now Wrong other wrong =
+  letters-some found now None other wrong =
       λ s. wrong (begins-other s.rest s.ended.list other s.ended.whole)
-  letters-some found now (Read count next) other l = record {
+  letters-some found now (Some a) other l = record {
     numbers = l.numbers;
     ended = record { bytes = l.ended.bytes; list = some l.ended.list; whole = l.ended.whole };
     past = l.past;
-    within = l.within;
     counted = l.counted;
     keeps = l.keeps;
   }

@@ -1,6 +1,5 @@
 pub mod Going
 pub mod Keeping
-pub mod Keywords
 pub mod Numbers
 pub mod Splits
 pub mod Keyed

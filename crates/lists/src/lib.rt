@@ -1,20 +1,21 @@
 // Lists of numbers in a text: a keyword, numbers with commas, a newline.
 #![tactic(auto)]
 
-ghost use Rattle.std.specs.Prelude.{◌≤◌, ◌≡◌, true, length, set};
+ghost use Rattle.std.specs.Prelude.{◌≡◌, set};
 ghost use Rattle.lists.specs.Lines.{Commas, Letters};
-ghost use Rattle.lists.specs.inside.Lists.{Keyword, Worded, Lists};
+ghost use Rattle.lists.specs.inside.Lists.{Worded, Lists};
 
-use decimals::{COMMA, NEWLINE, Numeral, number};
+use decimals::{COMMA, NEWLINE, number};
 
-// How many numbers a list has, and the place behind its newline.
+// How many numbers or lines stand together, and the rest of the text behind them.
 #[derive(Clone, Copy)]
-pub enum Listing {
-    Wrong,
-    Read(usize, usize),
+pub struct Listing<'a> {
+    pub count: usize,
+    pub rest: &'a [u8],
 }
 
 // Keeps a number, if the buffer has the place.
+// (By an index: behind a loan by get_mut a proof knows a slice's length and no element.)
 pub fn store(keep: &mut [u32], at: usize, n: u32)
     ensures { keep.new ≡ set keep.old at n }
 {
@@ -23,77 +24,42 @@ pub fn store(keep: &mut [u32], at: usize, n: u32)
     }
 }
 
-// Whether a keyword stands at a place.
-fn begins(text: &[u8], at: usize, word: &[u8]) -> bool
-    requires { at ≤ length text.now }
-    ensures { Keyword text.now at word.now result }
-{
-    let mut j = 0;
-    while j < word.len() {
-        if text.len() <= at + j {
-            return false;
-        }
-        if text[at + j] != word[j] {
-            return false;
-        }
-        j += 1;
-    }
-    true
-}
-
 // Numbers with commas, up to the end of the line.
-fn commas(text: &[u8], from: usize, max: u32, keep: &mut [u32]) -> Listing
-    requires { from ≤ length text.now }
-    ensures { Lists (Commas max) text.now from keep.old keep.new result }
+// (The count is half of the answer: numbers past the buffer's end are counted too.)
+fn commas<'a>(text: &'a [u8], max: u32, keep: &mut [u32]) -> Option<Listing<'a>>
+    ensures { Lists (Commas max) text.now keep.old keep.new result }
 {
-    let mut at = from;
+    let mut left = text;
     let mut count = 0;
     loop {
-        let Numeral::Read(n, next) = number(text, at, max) else {
-            return Listing::Wrong;
-        };
-        if text.len() <= next {
-            return Listing::Wrong;
-        }
-        store(keep, count, n);
+        let numeral = number(left, max)?;
+        let (end, rest) = left[numeral.next..].split_first()?;
+        store(keep, count, numeral.value);
         count += 1;
-        if text[next] == NEWLINE {
-            return Listing::Read(count, next + 1);
+        match *end {
+            NEWLINE => return Some(Listing { count, rest }),
+            COMMA => left = rest,
+            _ => return None,
         }
-        if text[next] != COMMA {
-            return Listing::Wrong;
-        }
-        at = next + 1;
     }
 }
 
 // A line of a keyword and numbers.
-pub fn fields(text: &[u8], at: usize, word: &[u8], max: u32, keep: &mut [u32]) -> Listing
-    requires { at ≤ length text.now }
-    ensures { Lists (Worded word.now (Commas max)) text.now at
+pub fn fields<'a>(text: &'a [u8], word: &[u8], max: u32, keep: &mut [u32]) -> Option<Listing<'a>>
+    ensures { Lists (Worded word.now (Commas max)) text.now
         keep.old keep.new result }
 {
-    if !begins(text, at, word) {
-        return Listing::Wrong;
-    }
-    commas(text, at + word.len(), max, keep)
+    commas(text.strip_prefix(word)?, max, keep)
 }
 
 // A line of a keyword and letters, perhaps none.
-pub fn letters(text: &[u8], at: usize, word: &[u8], keep: &mut [u32]) -> Listing
-    requires { at ≤ length text.now }
-    ensures { Lists (Worded word.now Letters) text.now at keep.old
+pub fn letters<'a>(text: &'a [u8], word: &[u8], keep: &mut [u32]) -> Option<Listing<'a>>
+    ensures { Lists (Worded word.now Letters) text.now keep.old
         keep.new result }
 {
-    if !begins(text, at, word) {
-        return Listing::Wrong;
+    let listed = text.strip_prefix(word)?;
+    if let Some(rest) = listed.strip_prefix(&[NEWLINE]) {
+        return Some(Listing { count: 0, rest });
     }
-    let from = at + word.len();
-    if text.len() <= from {
-        return Listing::Wrong;
-    }
-    if text[from] == NEWLINE {
-        return Listing::Read(0, from + 1);
-    }
-    commas(text, from, 4294967295, keep)
+    commas(listed, u32::MAX, keep)
 }

@@ -1,3 +1,2 @@
 pub mod Limits
 pub mod Looking
-pub mod Reading

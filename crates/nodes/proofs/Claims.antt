@@ -18,7 +18,7 @@ use Rattle.trees.proofs.Claims.{run_length, run_at}
 
 module _ (table : List ℕ) (d : Demands) where
   abbrev firsts : List Claim
-  firsts = run (formula_of table d.first) d.place d.fixed d.verdict
+  firsts = run (formula_of table d.first.entry) d.first.position d.fixed d.verdict
 
   abbrev members : List Claim
   members = run (formula_of table d.member) d.from d.count d.verdict
@@ -26,7 +26,7 @@ module _ (table : List ℕ) (d : Demands) where
   pub claims-length : length (claims_of table d) ≡ d.fixed + d.count
   claims-length =
       length-append firsts members
-      ∙ (λ i. run_length (formula_of table d.first) d.place d.fixed d.verdict i
+      ∙ (λ i. run_length (formula_of table d.first.entry) d.first.position d.fixed d.verdict i
       + run_length (formula_of table d.member) d.from d.count d.verdict i)
 
   pub claims-at : (m : ℕ) (z : Claim) → d.fixed ≤ 1 → m < d.fixed + d.count
@@ -35,10 +35,10 @@ module _ (table : List ℕ) (d : Demands) where
   claims-at m z one lt =
       by_cases (dec_lt m d.fixed)
       (λ before. get_or-append firsts members z m (rw run_length before)
-      ∙ run_at (formula_of table d.first) d.place d.fixed d.verdict m z before
-      ∙ ap (λ p. claim (formula_of table d.first) p d.verdict) (omega arith)
+      ∙ run_at (formula_of table d.first.entry) d.first.position d.fixed d.verdict m z before
+      ∙ ap (λ p. claim (formula_of table d.first.entry) p d.verdict) (omega arith)
       ∙ ap (λ p. claim (formula_of table p.entry) p.position d.verdict) (part-first d m before))
-      (λ after. let long = run_length (formula_of table d.first) d.place d.fixed d.verdict in
+      (λ after. let long = run_length (formula_of table d.first.entry) d.first.position d.fixed d.verdict in
       let there : m ≡ length firsts + (m - d.fixed) = omega (arith, long) in
       ap (λ k. get_or (claims_of table d) k z) there ∙ get_or-append-add firsts members (m - d.fixed) z
       ∙ run_at (formula_of table d.member) d.from d.count d.verdict (m - d.fixed) z (omega arith)

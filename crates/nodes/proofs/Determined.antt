@@ -1,7 +1,7 @@
 -- Two answers of the node test coincide.
 use mathlib.Core.Path.{◌≡◌, refl}
 use mathlib.Core.Bool.{Bool}
-use Rattle.trees.specs.Nodes.{Node}
+use Rattle.trees.specs.declared.Node.{Node}
 use Rattle.trees.specs.Rules.{Frame, Claim}
 use Rattle.nodes.specs.inside.Tested.{Tested, fits, unfit}
 

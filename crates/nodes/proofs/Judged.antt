@@ -14,7 +14,7 @@ use Rattle.rules.specs.declared.Unary.TheVariants.{Not}
 use Rattle.rules.specs.declared.Binary.TheVariants.{Or, And, Since, Until}
 use Rattle.schedule.proofs.Tests.{and_both}
 use Rattle.rules.proofs.Unrolls.{formula-unrolls}
-use Rattle.trees.specs.Nodes.{Node}
+use Rattle.trees.specs.declared.Node.{Node}
 use Rattle.trees.specs.Rules.{Frame, Claim, claim, Rule}
 use Rattle.trees.specs.Verdicts.{rule_sign, sign_of}
 use Rattle.trees.specs.inside.Table.{rule_kind}

@@ -11,9 +11,9 @@ use Rattle.rules.specs.Tables.{entry_at, formula_of}
 use Rattle.schedule.proofs.Tests.{and_both}
 use Rattle.trees.specs.Nodes.{node}
 use Rattle.trees.specs.Rules.{Frame, Claim, claim, Rule, rule1, rule2}
-use Rattle.trees.specs.Verdicts.{rule_sign}
+use Rattle.trees.specs.Verdicts.{rule_sign, sign_of}
 use Rattle.trees.specs.inside.Table.{rule_kind}
-use Rattle.nodes.specs.inside.Fits.{left_of, fits_of, atom_fits}
+use Rattle.nodes.specs.inside.Fits.{left_of, fits_of, atom_agrees, atom_fits}
 use Rattle.nodes.specs.inside.Tested.{Tested}
 use Rattle.trees.specs.declared.Verdict.{Verdict}
 use Rattle.trees.specs.declared.Verdict.TheVariants.{Holds, Violated}
@@ -97,7 +97,7 @@ module _ (frame : Frame) (table : List ℕ) (e i : ℕ) (s : Verdict) (a n : ℕ
   pub judged-atom : (k : ℕ) → 1 ≤ k → k ≤ 2
       → Tested frame (claim (formula_of table e) i s) (node k a n)
       (atom_fits (frame.letter i) (entry_at table e) i s k a n)
-  unfolding atom_fits Right Passed
+  unfolding atom_fits atom_agrees Right Passed
   judged-atom k low high =
       tested-by _ (λ t. ([], forth t)) (λ needs r. back (passed needs k low high r) (rule_fits table e i s r))
     where
@@ -111,7 +111,10 @@ module _ (frame : Frame) (table : List ℕ) (e i : ℕ) (s : Verdict) (a n : ℕ
       placed = eqb n i
 
       lettered : Bool
-      lettered = eqb (frame.letter i / 2 ^ a % 2) (2 - rule_sign k)
+      lettered = eqb (frame.letter i / 2 ^ a % 2) (2 - sign_of s)
+
+      signed : fits_of k (entry_at table e) s ≡ true → 2 - rule_sign k ≡ 2 - sign_of s
+      signed f = ap (λ m. 2 - m) (fits-says k (entry_at table e) s f).1
 
       forth : (fits_of k (entry_at table e) s && (named && (placed && lettered))) ≡ true
           → Rule frame (claim (formula_of table e) i s) (node k a n) []
@@ -122,7 +125,7 @@ module _ (frame : Frame) (table : List ℕ) (e i : ℕ) (s : Verdict) (a n : ℕ
           right first.0 (record {
             named = eqb-true a (left_of (entry_at table e)) second.0;
             placed = eqb-true n i third.0;
-            lettered = eqb-true (frame.letter i / 2 ^ a % 2) (2 - rule_sign k) third.1;
+            lettered = eqb-true (frame.letter i / 2 ^ a % 2) (2 - sign_of s) third.1 ∙ sym (signed first.0);
           })
 
       back : Named k → fits_of k (entry_at table e) s ≡ true
@@ -132,5 +135,5 @@ module _ (frame : Frame) (table : List ℕ) (e i : ℕ) (s : Verdict) (a n : ℕ
             f,
             eq-eqb a (left_of (entry_at table e)) told.named,
             eq-eqb n i told.placed,
-            eq-eqb (frame.letter i / 2 ^ a % 2) (2 - rule_sign k) told.lettered,
+            eq-eqb (frame.letter i / 2 ^ a % 2) (2 - sign_of s) (told.lettered ∙ signed f),
           )

@@ -15,7 +15,7 @@ use Rattle.trees.specs.Rules.{Frame, Claim, claim, Rule, rule11, rule12, rule13,
 use Rattle.trees.specs.Frames.{window_count}
 use Rattle.trees.specs.Verdicts.{rule_sign, sign_of}
 use Rattle.trees.specs.inside.Table.{rule_kind, rule_fixed}
-use Rattle.nodes.specs.inside.Fits.{left_of, right_of, fits_of, count_fits, window_of, list_fits}
+use Rattle.nodes.specs.inside.Fits.{left_of, right_of, fits_of, count_fits, list_fits}
 use Rattle.nodes.specs.inside.Demands.{list_demands, count_demands, claims_of, Earlier, Asks}
 use Rattle.nodes.specs.inside.Tested.{Tested}
 use Rattle.trees.specs.declared.Verdict.{Verdict}
@@ -31,8 +31,8 @@ module _ (letter : ℕ → ℕ) (u v : ℕ) (table : List ℕ) (e i : ℕ) (s : 
   abbrev frame : Frame
   frame = record { letter = letter; count = window_count u v }
 
-  abbrev window : ℕ → ℕ
-  window k = window_of k u v i (height Past (formula_of table (right_of (entry_at table e))))
+  abbrev window : ℕ
+  window = window_count u v i (height Past (formula_of table (right_of (entry_at table e))))
 
   abbrev demands : ℕ → Demands
   demands k = count_demands k (left_of (entry_at table e)) (right_of (entry_at table e)) i n s
@@ -40,10 +40,10 @@ module _ (letter : ℕ → ℕ) (u v : ℕ) (table : List ℕ) (e i : ℕ) (s : 
   -- where kind and sign fit and the count is allowed, the rule does;
   -- and where the rule does, the count is allowed
   record Right (k : ℕ) : Type 0 where
-    forth : fits_of k (entry_at table e) s ≡ true → count_fits k i n (window k) ≡ true
+    forth : fits_of k (entry_at table e) s ≡ true → count_fits k i n window ≡ true
         → Asks frame table e i s (node k 0 n) (demands k)
     back : {needs : List Claim} → Rule frame (claim (formula_of table e) i s) (node k 0 n) needs
-        → count_fits k i n (window k) ≡ true
+        → count_fits k i n window ≡ true
 
   -- the rule, from its own form; and its parts are near, since entries of two name earlier ones
   module _ (k : ℕ) (h : fits_of k (entry_at table e) s ≡ true) (first place member from : ℕ) where
@@ -133,9 +133,9 @@ module _ (letter : ℕ → ℕ) (u v : ℕ) (table : List ℕ) (e i : ℕ) (s : 
   }
 
   right-16 : Right 16
-  unfolding count_fits count_demands window_of
+  unfolding count_fits count_demands
   right-16 = record {
-    forth = λ h t. let all = eqb-true n (window 16) t in
+    forth = λ h t. let all = eqb-true n window t in
         record {
           rule = ruled 16 h (left_of (entry_at table e)) 0 _ i Violated refl (rule16 all);
           near = near 16 h _ 0 _ i (omega arith) (left_near 16 h (omega arith))
@@ -143,8 +143,9 @@ module _ (letter : ℕ → ℕ) (u v : ℕ) (table : List ℕ) (e i : ℕ) (s : 
         };
     back = λ r. let kind = sym (fits-says 16 (entry_at table e) s (rule_fits table e i s r)).0 in
         let right = ap formula_right (formula-kind table e 5 kind) in
-        eq-eqb n (window 16)
-        ((rule-numbers r).count16 refl ∙ ap (λ g. window_count u v i (height Past g)) right);
+        eq-eqb n window
+        ((rule-numbers r).count16 refl
+        ∙ ap (λ g. window_count u v i (height Past g)) right);
   }
 
   right-count : (k : ℕ) → 11 ≤ k → k ≤ 16 → Right k
@@ -168,6 +169,6 @@ module _ (letter : ℕ → ℕ) (u v : ℕ) (table : List ℕ) (e i : ℕ) (s : 
   judged-list k low high =
       let right = right-count k low high in
       tested-by _
-      (λ t. let both = and_both (fits_of k (entry_at table e) s) (count_fits k i n (window k)) t in
+      (λ t. let both = and_both (fits_of k (entry_at table e) s) (count_fits k i n window) t in
       (_, (right.forth both.0 both.1).rule))
       (λ needs r. simp (rule_fits table e i s r, right.back r))

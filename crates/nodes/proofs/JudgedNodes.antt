@@ -6,11 +6,13 @@ use Prim.Native.Nat.{ℕ, ◌/◌, ◌%◌, ◌^◌, ◌<◌, ◌≤◌}
 use native.Mathlib.Omega.{arith}
 use mathlib.Core.Logic.{by_cases}
 use native.Mathlib.Decide.{dec_le}
+use Rattle.std.specs.Prelude.{Option, Some, None}
 use lib.ListN.{length}
 use Rattle.schedule.specs.Letters.{letter_at}
 use Rattle.rules.specs.Tables.{entry_at, formula_of}
 use Rattle.rules.specs.declared.Entry.{Entry}
-use Rattle.trees.specs.Nodes.{Node, node, node_of}
+use Rattle.trees.specs.Nodes.{node, node_of}
+use Rattle.trees.specs.declared.Node.{Node}
 use Rattle.trees.specs.Rules.{Claim, claim, Rule}
 use Rattle.trees.specs.Frames.{schedule_frame}
 use Rattle.forms.specs.inside.Forms.{form_from, form_of}
@@ -19,7 +21,7 @@ use Rattle.nodes.specs.inside.Demands.{plain_demands, count_demands, Countable, 
 use Rattle.nodes.specs.inside.Tested.{Tested, unfit}
 use Rattle.trees.specs.declared.Verdict.{Verdict}
 use Rattle.forms.specs.declared.Form.{Form}
-use Rattle.forms.specs.declared.Form.TheVariants.{AtomForm, PlainForm, CountedForm, Malformed}
+use Rattle.forms.specs.declared.Form.TheVariants.{Atom, Plain, Counted}
 use Rattle.nodes.specs.declared.Demands.{Demands}
 use Rattle.forms.proofs.Words.{word-says, word-atom, word-plain, word-counted}
 use Rattle.nodes.proofs.Plans.{demands-plain, demands-count}
@@ -29,21 +31,19 @@ use Rattle.nodes.proofs.JudgedAtoms.{judged-atom}
 use Rattle.nodes.proofs.JudgedPlain.{asks-plain, judged-plain}
 use Rattle.nodes.proofs.JudgedLists.{asks-count, judged-list}
 
-abbrev IsMalformed : Form → Type 0
-IsMalformed (AtomForm r a n) = ⊥
-IsMalformed (PlainForm r) = ⊥
-IsMalformed (CountedForm r n) = ⊥
-IsMalformed Malformed = Unit
+abbrev IsNone : Option Form → Type 0
+IsNone (Some x) = ⊥
+IsNone None = Unit
 
--- three fields that a rule allows make a word that is not malformed
+-- three fields that a rule allows make a word that has a form
 formed : (r a n : ℕ) → 1 ≤ r → r ≤ 16 → (3 ≤ r → a ≡ 0) → (3 ≤ r → r ≤ 10 → n ≡ 0)
-    → IsMalformed (form_from r a n) → ⊥
+    → IsNone (form_from r a n) → ⊥
 formed r a n low high atomless plain bad =
-    by_cases (dec_le r 2) (λ two. subst IsMalformed (sym (word-atom r a n low two)) bad)
+    by_cases (dec_le r 2) (λ two. subst IsNone (sym (word-atom r a n low two)) bad)
     (λ more. by_cases (dec_le r 10)
-    (λ ten. subst IsMalformed
+    (λ ten. subst IsNone
     (sym (word-plain r a n (omega arith) ten (atomless (omega arith)) (plain (omega arith) ten))) bad)
-    (λ past. subst IsMalformed (sym (word-counted r a n (omega arith) high (atomless (omega arith)))) bad))
+    (λ past. subst IsNone (sym (word-counted r a n (omega arith) high (atomless (omega arith)))) bad))
 
 node-is : (w k b m : ℕ) → w / 16777216 ≡ k → w / 65536 % 256 ≡ b → w % 65536 ≡ m → node k b m ≡ node_of w
 node-is w k b m p q r = λ j. node (sym p j) (sym q j) (sym r j)
@@ -59,34 +59,34 @@ module _ (prefix loop table : List ℕ) (e i : ℕ) (s : Verdict) (w : ℕ) wher
       subst (λ y. Tested (schedule_frame prefix loop) (claim (formula_of table e) i s) y b)
       (node-is w k a n p q r) t
 
-  pub node-malformed : form_of w ≡ Malformed → Right false
+  pub node-formless : form_of w ≡ None → Right false
   unfolding form_of
-  node-malformed p =
+  node-formless p =
       unfit (λ needs r. let numbers = rule-numbers r in
       formed (w / 16777216) (w / 65536 % 256) (w % 65536) numbers.low numbers.high numbers.unnamed
-      numbers.plain (subst IsMalformed (sym p) tt))
+      numbers.plain (subst IsNone (sym p) tt))
 
   -- the code hands over the letter and the entry that it read
-  pub node-atom : (b : Bool) (letter : ℕ) (x : Entry) (k a n : ℕ) → form_of w ≡ AtomForm k a n
+  pub node-atom : (b : Bool) (letter : ℕ) (x : Entry) (k a n : ℕ) → form_of w ≡ Some (Atom k a n)
       → letter ≡ letter_at prefix loop i → x ≡ entry_at table e → b ≡ atom_fits letter x i s k a n → Right b
   node-atom b letter x k a n p l q d =
-      let says = word-says w (AtomForm k a n) p in
+      let says = word-says w (Some (Atom k a n)) p in
       subst Right (sym (d ∙ (λ j. atom_fits (l j) (q j) i s k a n)))
       (at-node k a n says.0 says.1 says.2
       (judged-atom (schedule_frame prefix loop) table e i s a n k says.3 says.4))
 
-  pub node-plain : (b : Bool) (x : Entry) (k : ℕ) → form_of w ≡ PlainForm k → x ≡ entry_at table e
+  pub node-plain : (b : Bool) (x : Entry) (k : ℕ) → form_of w ≡ Some (Plain k) → x ≡ entry_at table e
       → b ≡ fits_of k x s → Right b
   node-plain b x k p q d =
-      let says = word-says w (PlainForm k) p in
+      let says = word-says w (Some (Plain k)) p in
       subst Right (sym (d ∙ (λ j. fits_of k (q j) s)))
       (at-node k 0 0 says.0 says.1 says.2
       (judged-plain (schedule_frame prefix loop) table e i s k says.3 says.4))
 
-  pub node-counted : (b : Bool) (x : Entry) (k n : ℕ) → form_of w ≡ CountedForm k n → x ≡ entry_at table e
+  pub node-counted : (b : Bool) (x : Entry) (k n : ℕ) → form_of w ≡ Some (Counted k n) → x ≡ entry_at table e
       → b ≡ list_fits (length prefix) (length loop) table x i s k n → Right b
   node-counted b x k n p q d =
-      let says = word-says w (CountedForm k n) p in
+      let says = word-says w (Some (Counted k n)) p in
       subst Right (sym (d ∙ (λ j. list_fits (length prefix) (length loop) table (q j) i s k n)))
       (at-node k 0 n says.0 says.1 says.2
       (judged-list (letter_at prefix loop) (length prefix) (length loop) table e i s n (small says) k

@@ -7,3 +7,5 @@ pub mod JudgedNodes
 pub mod JudgedPlain
 pub mod Parts
 pub mod Plans
+pub mod Windows
+pub mod Counted

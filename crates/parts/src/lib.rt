@@ -1,14 +1,17 @@
-// What a node asks of its parts, and the part that stands at a place.
+// What a node asks of its parts, and the part that stands at a place. A rule is its number here too, as in
+// the constant table, so what differs by rule is a match on it.
 #![tactic(auto)]
 
 ghost use Rattle.std.specs.Prelude.{◌≡◌, ◌+◌, ◌^◌, ◌≤◌, ◌<◌};
-ghost use Rattle.nodes.specs.inside.Demands.{opposite, first_of, verdict_of, plain_demands, list_demands};
+ghost use Rattle.nodes.specs.inside.Fits.{left_of, right_of};
+ghost use Rattle.nodes.specs.inside.Demands.{opposite, first_of, verdict_of, plain_demands};
 ghost use Rattle.nodes.specs.inside.Demands.{count_demands, Countable, demands_of, part_of};
 
 use nodes::{Demands, Part, left_of, right_of};
 use rules::Entry;
 use trees::{Verdict, fixed};
 
+// (A function for one use: Verdict is of another crate.)
 fn turn(verdict: Verdict) -> Verdict
     ensures { result ≡ opposite verdict }
 {
@@ -23,8 +26,7 @@ fn first_part(here: Entry, rule: usize) -> usize
     ensures { result ≡ first_of here rule }
 {
     match rule {
-        6 => right_of(here),
-        10 => right_of(here),
+        6 | 10 => right_of(here),
         _ => left_of(here),
     }
 }
@@ -34,8 +36,7 @@ fn part_verdict(needed: Verdict, rule: usize) -> Verdict
     ensures { result ≡ verdict_of needed rule }
 {
     match rule {
-        3 => turn(needed),
-        4 => turn(needed),
+        3 | 4 => turn(needed),
         _ => needed,
     }
 }
@@ -48,8 +49,10 @@ fn plain_demands(here: Entry, position: usize, verdict: Verdict, rule: usize) ->
 {
     Demands {
         fixed: 1,
-        first: first_part(here, rule),
-        place: position,
+        first: Part {
+            entry: first_part(here, rule),
+            position,
+        },
         member: right_of(here),
         from: position,
         count: fixed(rule) - 1,
@@ -57,66 +60,67 @@ fn plain_demands(here: Entry, position: usize, verdict: Verdict, rule: usize) ->
     }
 }
 
-// What a list asks, with the rule's fixed part before it.
-fn list_demands(
-    rule: usize,
-    first: usize,
-    place: usize,
-    member: usize,
-    from: usize,
-    count: usize,
-    verdict: Verdict,
-) -> Demands
-    requires { (1 ≤ rule) × (rule ≤ 16) }
-    ensures { result ≡ list_demands rule first place member from count verdict }
-{
-    Demands {
-        fixed: fixed(rule),
-        first,
-        place,
-        member,
-        from,
-        count,
-        verdict,
-    }
-}
-
-// Rules 11 to 16: what the parts have to prove.
+// Rules 11 to 16: what the parts have to prove. Of those without a fixed part, 13 and 16, `first` is not
+// read. (Limits are one named fact, `Countable`: a value of a type would be made for each node.)
 #[tactic(auto, unfolding(nodes::specs::inside::Demands::count_demands))]
 fn count_demands(
-    rule: usize,
-    left: usize,
-    right: usize,
+    here: Entry,
     position: usize,
-    n: usize,
     verdict: Verdict,
+    rule: usize,
+    count: usize,
 ) -> Demands
-    requires { (11 ≤ rule) × Countable rule position n }
-    ensures { result ≡ count_demands rule left right position n verdict }
+    requires { (11 ≤ rule) × Countable rule position count }
+    ensures { result ≡ count_demands rule (left_of here) (right_of here) position count verdict }
 {
+    let left = left_of(here);
+    let right = right_of(here);
+    let list = Demands {
+        fixed: fixed(rule),
+        first: Part {
+            entry: left,
+            position: 0,
+        },
+        member: right,
+        from: position,
+        count,
+        verdict,
+    };
     match rule {
-        11 => list_demands(
-            rule,
-            right,
-            position - n,
-            left,
-            position - n + 1,
-            n,
-            verdict,
-        ),
-        12 => list_demands(
-            rule,
-            left,
-            position + 1 - n,
-            right,
-            position + 1 - n,
-            n,
-            verdict,
-        ),
-        13 => list_demands(rule, left, 0, right, 0, n, verdict),
-        14 => list_demands(rule, right, position + n, left, position, n, verdict),
-        15 => list_demands(rule, left, position + n - 1, right, position, n, verdict),
-        _ => list_demands(rule, left, 0, right, position, n, verdict),
+        11 => Demands {
+            first: Part {
+                entry: right,
+                position: position - count,
+            },
+            member: left,
+            from: position - count + 1,
+            ..list
+        },
+        12 => Demands {
+            first: Part {
+                entry: left,
+                position: position + 1 - count,
+            },
+            from: position + 1 - count,
+            ..list
+        },
+        13 => Demands { from: 0, ..list },
+        14 => Demands {
+            first: Part {
+                entry: right,
+                position: position + count,
+            },
+            member: left,
+            ..list
+        },
+        15 => Demands {
+            first: Part {
+                entry: left,
+                position: position + count - 1,
+            },
+            ..list
+        },
+        _ => list,
     }
 }
 
@@ -130,7 +134,7 @@ pub fn demands_of(here: Entry, position: usize, verdict: Verdict, rule: usize, n
     if rule <= 10 {
         return plain_demands(here, position, verdict, rule);
     }
-    count_demands(rule, left_of(here), right_of(here), position, n, verdict)
+    count_demands(here, position, verdict, rule, n)
 }
 
 // The part that stands at a place in tree order.
@@ -140,10 +144,7 @@ pub fn part_at(demands: Demands, m: usize) -> Part
     ensures { result ≡ part_of demands m }
 {
     if m < demands.fixed {
-        return Part {
-            entry: demands.first,
-            position: demands.place,
-        };
+        return demands.first;
     }
     Part {
         entry: demands.member,

@@ -6,6 +6,8 @@ use lib.ListN.{length}
 use Rattle.schedule.specs.Buffers.{put}
 use Rattle.printing.specs.Fields.{Field, field, NumberLine, number_line}
 use Rattle.printing.specs.Placed.{Placed}
+use Rattle.printing.specs.inside.Puts.{Puts}
+use Rattle.printing.specs.declared.Writer.{Writer}
 use Rattle.decimals.proofs.Digits.{decimal-one}
 
 pub field-one : {n end : ℕ} {bs cs : List ℕ} → Field n end bs → Field n end cs → bs ≡ cs
@@ -24,3 +26,10 @@ placed-determined {P} {at} {found = found} one p q =
       p.leaves ∙ ap (λ bs. put at bs found) same ∙ sym q.leaves,
       p.ends ∙ ap (λ bs. at + length bs) same ∙ sym q.ends,
     )
+
+pub puts-determined : {P : List ℕ → Type 0} {before after after' : Writer}
+    → ((bs cs : List ℕ) → P bs → P cs → bs ≡ cs) → Puts P before after → Puts P before after'
+    → (after.bytes.ghost_name ≡ after'.bytes.ghost_name) × (after.bytes.now ≡ after'.bytes.now)
+    × (after.at ≡ after'.at)
+puts-determined one p q =
+    let same = placed-determined one p.placed q.placed in (p.same ∙ sym q.same, same.0, same.1)

@@ -1,15 +1,18 @@
 -- Bytes placed one after another are placed together, and how a number and a text are placed byte by byte.
-use Prim.Native.Nat.{ℕ, suc, ◌+◌, ◌*◌, ◌/◌, ◌%◌, ◌<◌, ◌≤◌}
+use Prim.Native.Nat.{ℕ, ◌+◌, ◌*◌, ◌/◌, ◌%◌, ◌<◌, ◌≤◌}
 use mathlib.Core.Path.{◌≡◌, refl, sym, ap, subst, ◌∙◌}
 use mathlib.Core.List.{List, [], ◌∷◌, ◌++◌}
 use native.Mathlib.Omega.{arith}
-use lib.ListN.{length, take, set, get_or, length-append}
-use lib.Seq.{take-suc, take-length}
+use lib.ListN.{length, take, drop, set, length-append}
+use lib.Seq.{drop-drop}
+use borrow.Rule.Slice.PartMut.{put_mid}
 use Rattle.schedule.specs.Buffers.{put}
 use Rattle.schedule.proofs.Buffers.{put-none, put_one, put-length, put-put}
 use Rattle.decimals.specs.Decimals.{Decimal, digit, longer}
 use Rattle.printing.specs.Fields.{Field, field}
 use Rattle.printing.specs.Placed.{Placed}
+use Rattle.printing.specs.inside.Puts.{Puts}
+use Rattle.printing.specs.declared.Writer.{Writer}
 use Rattle.decimals.proofs.Digits.{decimal-length}
 
 pub placed-length : {P : List ℕ → Type 0} {at next : ℕ} {found left : List ℕ} → Placed P at found left next
@@ -56,14 +59,58 @@ placed-then {P} {Q} {R} {at} {middle} {next} {found} {between} {left} join p q =
           ∙ put-put at xs found (omega (arith, p.ends, p.inside)) ys;
     }
 
--- One digit.
-pub digit-placed : (at n : ℕ) (found : List ℕ) → at + 10 ≤ length found → n < 10
-    → Placed (λ ds. Decimal ds n) at found (set found at (48 + n)) (at + 1)
-digit-placed at n found room lt =
-    placed-as (λ bs e. subst (λ l. Decimal l n) (sym e) (digit lt))
-    (placed_one at (48 + n) found (omega (arith, room)))
+-- A text that is copied over part of the bytes.
+put-mid : (at k : ℕ) (found bs : List ℕ) → k ≡ length bs → put_mid at k found bs ≡ put at bs found
+unfolding put
+put-mid at k found bs e =
+    ap (λ l. take at found ++ (bs ++ l)) (drop-drop k at found ∙ ap (λ j. drop (at + j) found) e)
 
-longer-is : (n : ℕ) → 10 ≤ n → (xs ys : List ℕ) → Decimal xs (n / 10) → ys ≡ (48 + n % 10) ∷ []
+pub copy-placed : (at k : ℕ) (found text bs : List ℕ) → at + length text ≤ length found → k ≡ length text
+    → bs ≡ text → Placed (λ l. l ≡ text) at found (put_mid at k found bs) (at + length text)
+copy-placed at k found text bs room e same = record {
+  bytes = text;
+  such = refl;
+  ends = refl;
+  inside = room;
+  leaves = ap (put_mid at k found) same ∙ put-mid at k found text e;
+}
+
+-- Bytes that an output is given one after another, and what is known of bytes in other words.
+pub puts-then : {P Q R : List ℕ → Type 0} {before between after : Writer}
+    → ((xs ys : List ℕ) → P xs → Q ys → R (xs ++ ys)) → Puts P before between → Puts Q between after
+    → Puts R before after
+puts-then join p q =
+    record { same = q.same ∙ p.same; placed = placed-then join p.placed q.placed }
+
+pub puts-none : (output : Writer) → output.at ≤ length output.bytes.now
+    → Puts (λ bs. bs ≡ []) output output
+puts-none output le = record { same = refl; placed = placed-none output.at output.bytes.now le }
+
+pub puts-as : {P Q : List ℕ → Type 0} {before after : Writer} → ((bs : List ℕ) → P bs → Q bs)
+    → Puts P before after → Puts Q before after
+puts-as f p = record { same = p.same; placed = placed-as f p.placed }
+
+pub puts-length : {P : List ℕ → Type 0} {before after : Writer} → Puts P before after
+    → length after.bytes.now ≡ length before.bytes.now
+puts-length p = placed-length p.placed
+
+-- What an output was given that began at the front of lent bytes.
+pub puts-front : {P : List ℕ → Type 0} {found : List ℕ} (before after : Writer) → before.bytes.now ≡ found
+    → before.at ≡ 0 → Puts P before after → Placed P 0 found after.bytes.now after.at
+puts-front {P} before after e z p =
+    subst (λ l. Placed P 0 l after.bytes.now after.at) e
+    (subst (λ k. Placed P k before.bytes.now after.bytes.now after.at) z p.placed)
+
+pub text-ends : {text : List ℕ} {before after : Writer} → Puts (λ bs. bs ≡ text) before after
+    → after.at ≡ before.at + length text
+text-ends p = omega (arith, p.placed.ends, ap length p.placed.such)
+
+-- What stands before the last digit: nothing, or the digits of the tenth.
+pub data Begun (n : ℕ) (before between : Writer) : Type 0 where
+  one_digit : n ≤ 9 → between ≡ before → Begun n before between
+  more_digits : 9 < n → Puts (λ ds. Decimal ds (n / 10)) before between → Begun n before between
+
+longer-is : (n : ℕ) → 9 < n → (xs ys : List ℕ) → Decimal xs (n / 10) → ys ≡ (48 + n % 10) ∷ []
     → Decimal (xs ++ ys) n
 longer-is n le xs ys d e =
     let whole : n / 10 * 10 + n % 10 ≡ n = omega arith in
@@ -71,63 +118,32 @@ longer-is n le xs ys d e =
     (subst (λ l. Decimal (xs ++ l) (n / 10 * 10 + n % 10)) (sym e)
     (longer d (omega (arith, le)) (omega arith)))
 
-module _ {at middle n : ℕ} {found between : List ℕ}
-    (p : Placed (λ ds. Decimal ds n) at found between middle) where
+module _ {n : ℕ} (small : n < 4294967296) {before between : Writer} where
   -- No number of 32 bits has more than ten digits.
-  pub ten-digits : n < 4294967296 → middle ≤ at + 10
-  ten-digits lt = omega (arith, p.ends, decimal-length 9 p.such (omega (arith, lt)))
+  pub digits-most : Puts (λ ds. Decimal ds n) before between → between.at ≤ before.at + 10
+  digits-most p = omega (arith, p.placed.ends, decimal-length 9 p.placed.such (omega (arith, small)))
 
-  pub nine-digits : n < 1000000000 → middle ≤ at + 9
-  nine-digits lt = omega (arith, p.ends, decimal-length 8 p.such (omega (arith, lt)))
+  pub begun-room : Begun n before between → before.at + 10 ≤ length before.bytes.now
+      → between.at < length between.bytes.now
+  begun-room (one_digit le e) room = rw e (omega (arith, room))
+  begun-room (more_digits lt p) room =
+      omega (
+        arith,
+        room,
+        p.placed.ends,
+        decimal-length 8 p.placed.such (omega (arith, small)),
+        puts-length p,
+      )
 
--- The digits before the last, and the last.
-pub longer-placed : (at n : ℕ) (found between : List ℕ) (middle : ℕ) → at + 10 ≤ length found → 10 ≤ n
-    → n < 4294967296 → Placed (λ ds. Decimal ds (n / 10)) at found between middle
-    → Placed (λ ds. Decimal ds n) at found (set between middle (48 + n % 10)) (middle + 1)
-longer-placed at n found between middle room le lt p =
-    placed-then (longer-is n le) p
-    (placed_one middle (48 + n % 10) between
-    (omega (arith, room, placed-length p, nine-digits p (omega (arith, lt)))))
+  pub digits-put : {after : Writer} → Begun n before between
+      → Puts (λ bs. bs ≡ (48 + n % 10) ∷ []) between after → Puts (λ ds. Decimal ds n) before after
+  digits-put {after} (one_digit le e) p =
+      let last : n % 10 ≡ n = omega (arith, le) in
+      puts-as (λ bs is. subst (λ l. Decimal l n) (sym (is ∙ ap (λ d. (48 + d) ∷ []) last))
+      (digit (omega (arith, le)))) (subst (λ o. Puts (λ bs. bs ≡ (48 + n % 10) ∷ []) o after) e p)
+  digits-put (more_digits lt p) q = puts-then (longer-is n lt) p q
 
 -- A number and the byte that ends it.
-pub field-placed : (at n end : ℕ) (found between : List ℕ) (middle : ℕ) → at + 11 ≤ length found
-    → n < 4294967296 → Placed (λ ds. Decimal ds n) at found between middle
-    → Placed (Field n end) at found (set between middle end) (middle + 1)
-field-placed at n end found between middle room lt p =
-    placed-then (λ xs ys d e. subst (λ l. Field n end (xs ++ l)) (sym e) (field d)) p
-    (placed_one middle end between (omega (arith, room, placed-length p, ten-digits p lt)))
-
--- The bytes of a text that are copied so far.
-pub record Copied (text : List ℕ) (at : ℕ) (found left : List ℕ) (k : ℕ) : Type 0 where
-  pub placed : Placed (λ bs. bs ≡ take k text) at found left (at + k)
-  pub most : k ≤ length text
-
-pub copied_none : (text : List ℕ) (at : ℕ) (found : List ℕ) → at + length text ≤ length found
-    → Copied text at found found 0
-copied_none text at found room =
-    record {
-      placed = subst (Placed (λ bs. bs ≡ []) at found found) (omega arith)
-          (placed-none at found (omega (arith, room)));
-      most = omega arith;
-    }
-
-pub copied_more : {text : List ℕ} {at : ℕ} {found left : List ℕ} {k : ℕ} → at + length text ≤ length found
-    → Copied text at found left k → k < length text
-    → Copied text at found (set left (at + k) (get_or text k 0)) (k + 1)
-copied_more {text} {at} {found} {left} {k} room c lt =
-    let b = get_or text k 0 in
-    let next : at + k + 1 ≡ at + (k + 1) = omega arith in
-    let one : suc k ≡ k + 1 = omega arith in
-    let whole = placed-then
-    (λ xs ys e d. (λ i. e i ++ d i) ∙ sym (take-suc text k 0 lt) ∙ ap (λ j. take j text) one) c.placed
-    (placed_one (at + k) b left (omega (arith, room, lt, placed-length c.placed))) in
-    record {
-      placed = subst (Placed (λ bs. bs ≡ take (k + 1) text) at found (set left (at + k) b)) next whole;
-      most = omega (arith, lt);
-    }
-
-pub copied-done : {text : List ℕ} {at : ℕ} {found left : List ℕ} {k : ℕ} → Copied text at found left k
-    → ¬ (k < length text) → Placed (λ bs. bs ≡ text) at found left (at + k)
-copied-done {text} {at} {found} {left} {k} c end =
-    let all : k ≡ length text = omega (arith, c.most, end) in
-    placed-as (λ bs e. e ∙ ap (λ j. take j text) all ∙ take-length text) c.placed
+pub field-put : {n end : ℕ} {before between after : Writer} → Puts (λ ds. Decimal ds n) before between
+    → Puts (λ bs. bs ≡ end ∷ []) between after → Puts (Field n end) before after
+field-put {n} {end} p q = puts-then (λ xs ys d e. subst (λ l. Field n end (xs ++ l)) (sym e) (field d)) p q

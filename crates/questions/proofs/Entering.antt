@@ -1,213 +1,133 @@
--- Lines of an entry and of a question: a list of three numbers, or of two;
--- and the lines of entries, read one by one.
+-- Lines of so many numbers, and the lines of entries, read one by one.
 use mathlib.Core.Path.{◌≡◌, refl, sym, ap, subst, ◌∙◌}
-use mathlib.Core.List.{List, [], ◌∷◌, ◌++◌, append_assoc}
-use Prim.Native.Nat.{ℕ, ◌+◌, ◌*◌, ◌≤◌}
+use mathlib.Core.List.{List, [], ◌∷◌, ◌++◌, append_assoc, append-nil}
+use Prim.Native.Nat.{ℕ, zero, suc, ◌+◌, ◌≤◌}
 use native.Mathlib.Omega.{arith}
-use lib.ListN.{take, length, get_or, drop, set, length-append}
+use lib.ListN.{take, length, get_or, set, length-append, drop_of_length-le}
+use lib.Seq.{take_all}
+use Rattle.std.specs.Prelude.{Option, Some, None}
 use Rattle.questions.specs.Texts.{entry_key}
 use Rattle.lists.specs.Lines.{line_of, Commas, last, more}
 use Rattle.rules.specs.Words.{entry_word}
-use Rattle.lists.specs.inside.Lists.{Ended, Some, Listed}
-use Rattle.questions.specs.inside.LinesRead.{EntryFields, AskFields, EntryRead, Enters, AskFound}
+use Rattle.lists.specs.inside.Lists.{BytesFor, Ended, SomeList, Worded, Listed}
+use Rattle.questions.specs.declared.Fields.{Fields}
+use Rattle.questions.specs.inside.LinesRead.{EntryFields, AskFields, FieldsAt, FieldsRead}
 use Rattle.questions.specs.inside.LinesRead.{EntryLines, none, more as another, AllEntries}
-use Rattle.questions.specs.declared.Entered.TheVariants.{NoEntry, EntryAt}
-use Rattle.questions.specs.declared.AskedLine.TheVariants.{NotAsked, AskedAt}
-use Rattle.lists.proofs.Keeping.{kept-none, kept_more, kept-length}
-use Rattle.lists.proofs.Keyed.{plain-commas, ended-one, ended-line}
+use Rattle.lists.proofs.Keeping.{kept-none, kept_more}
+use Rattle.lists.proofs.Keyed.{OneReading, ended-one, ended-line}
 use Rattle.schedule.specs.Buffers.{put}
+use Rattle.schedule.proofs.Buffers.{put_front}
 
-abbrev Bounded : ℕ → List ℕ → Type 0
-Bounded max [] = Unit
-Bounded max (n ∷ ns) = (n ≤ max) × Bounded max ns
+-- A list that fills its buffer is what stands there.
+kept_whole : (found now ns : List ℕ) → length ns ≡ length found → now ≡ put 0 (take (length found) ns) found
+    → now ≡ ns
+kept_whole found now ns same keeps =
+    let all : take (length found) ns ≡ ns = take_all (length found) ns (omega (arith, same)) in
+    keeps ∙ ap (λ l. put 0 l found) all ∙ put_front ns found
+    ∙ ap (λ l. ns ++ l) (drop_of_length-le found (omega (arith, same))) ∙ append-nil ns
 
-commas-bounded : {max : ℕ} {bs ns : List ℕ} → Commas max bs ns → Bounded max ns
-commas-bounded (last d le) = (le, tt)
-commas-bounded (more d le c) = (le, commas-bounded c)
+pub numbers-none : (P : BytesFor) (many : ℕ) (text : List ℕ) {r : Option (Fields many)} → r ≡ None
+    → ¬ SomeList P text → FieldsRead P many text r
+numbers-none P many text e wrong = subst (FieldsRead P many text) (sym e)
+    (λ ns rest size ended. wrong (record { numbers = ns; rest = rest; ended = ended }))
 
--- A list of three, kept in a buffer of three.
-record TripleRead (max : ℕ) (ns now : List ℕ) : Type 0 where
-  a : ℕ
-  b : ℕ
-  c : ℕ
-  whole : ns ≡ a ∷ b ∷ c ∷ []
-  first : get_or now 0 0 ≡ a
-  second : get_or now 1 0 ≡ b
-  third : get_or now 2 0 ≡ c
-  bounds : (a ≤ max) × (b ≤ max) × (c ≤ max)
-
-three : (max : ℕ) (ns now found : List ℕ) → length found ≡ 3 → length ns ≡ 3 → Bounded max ns
-    → now ≡ put 0 (take (length found) ns) found → TripleRead max ns now
-unfolding put
-three max [] now found size long small keeps = absurd (omega arith)
-three max (a ∷ []) now found size long small keeps = absurd (omega arith)
-three max (a ∷ b ∷ []) now found size long small keeps = absurd (omega arith)
-three max (a ∷ b ∷ c ∷ []) now found size long small keeps =
-    let is : now ≡ put 0 (take 3 (a ∷ b ∷ c ∷ [])) found
-    = keeps ∙ ap (λ k. put 0 (take k (a ∷ b ∷ c ∷ [])) found) size in
+pub numbers-found : {P : BytesFor} {text found now rest : List ℕ} {count many : ℕ}
+    → Listed P text found now count rest → length found ≡ many → count ≡ many
+    → FieldsAt P many text now rest
+numbers-found {P} {text} {found} {now} {rest} l size is =
+    let full : length l.numbers ≡ length found = sym l.counted ∙ is ∙ sym size in
+    let whole : now ≡ l.numbers = kept_whole found now l.numbers full l.keeps in
     record {
-      a = a;
-      b = b;
-      c = c;
-      whole = refl;
-      first = ap (λ l. get_or l 0 0) is;
-      second = ap (λ l. get_or l 1 0) is;
-      third = ap (λ l. get_or l 2 0) is;
-      bounds = (small.0, small.1.0, small.1.1.0);
+      ended = subst (λ ns. Ended P text ns rest) (sym whole) l.ended;
+      size = ap length whole ∙ full ∙ size;
+      past = omega (arith, l.past);
     }
-three max (a ∷ b ∷ c ∷ d ∷ ns) now found size long small keeps = absurd (omega arith)
 
-record PairRead (max : ℕ) (ns now : List ℕ) : Type 0 where
-  a : ℕ
-  b : ℕ
-  whole : ns ≡ a ∷ b ∷ []
-  first : get_or now 0 0 ≡ a
-  second : get_or now 1 0 ≡ b
-  bounds : (a ≤ max) × (b ≤ max)
+pub numbers-other : {P : BytesFor} {word text found now left : List ℕ} {count many : ℕ} → OneReading P
+    → Listed (Worded word P) text found now count left → ¬ (count ≡ many)
+    → FieldsRead (Worded word P) many text None
+numbers-other plain l other ns rest size ended =
+    other (l.counted ∙ ap length (ended-one plain l.ended ended).0 ∙ size)
 
-two : (max : ℕ) (ns now found : List ℕ) → length found ≡ 2 → length ns ≡ 2 → Bounded max ns
-    → now ≡ put 0 (take (length found) ns) found → PairRead max ns now
-unfolding put
-two max [] now found size long small keeps = absurd (omega arith)
-two max (a ∷ []) now found size long small keeps = absurd (omega arith)
-two max (a ∷ b ∷ []) now found size long small keeps =
-    let is : now ≡ put 0 (take 2 (a ∷ b ∷ [])) found
-    = keeps ∙ ap (λ k. put 0 (take k (a ∷ b ∷ [])) found) size in
-    record {
-      a = a;
-      b = b;
-      whole = refl;
-      first = ap (λ l. get_or l 0 0) is;
-      second = ap (λ l. get_or l 1 0) is;
-      bounds = (small.0, small.1.0);
-    }
-two max (a ∷ b ∷ c ∷ ns) now found size long small keeps = absurd (omega arith)
+-- Each of some numbers is at most their bound.
+pub commas-low : {max : ℕ} {bs ns : List ℕ} → Commas max bs ns → (k : ℕ) → get_or ns k 0 ≤ max
+commas-low (last d le) zero = le
+commas-low (last d le) (suc k) = omega arith
+commas-low (more d le c) zero = le
+commas-low (more d le c) (suc k) = commas-low c k
 
-module _ (text : List ℕ) (at : ℕ) where
-  pub entry-wrong : ¬ Some EntryFields (drop at text) → Enters text at NoEntry
-  entry-wrong wrong kind left right rest e =
-      wrong (record { numbers = kind ∷ left ∷ right ∷ []; rest = rest; ended = e })
+three : (ns : List ℕ) → length ns ≡ 3 → ns ≡ get_or ns 0 0 ∷ get_or ns 1 0 ∷ get_or ns 2 0 ∷ []
+three [] size = absurd (omega arith)
+three (a ∷ []) size = absurd (omega arith)
+three (a ∷ b ∷ []) size = absurd (omega arith)
+three (a ∷ b ∷ c ∷ []) size = refl
+three (a ∷ b ∷ c ∷ d ∷ ns) size = absurd (omega arith)
 
-  pub ask-wrong : ¬ Some AskFields (drop at text) → AskFound text at NotAsked
-  ask-wrong wrong entry position rest e =
-      wrong (record { numbers = entry ∷ position ∷ []; rest = rest; ended = e })
+two : (ns : List ℕ) → length ns ≡ 2 → ns ≡ get_or ns 0 0 ∷ get_or ns 1 0 ∷ []
+two [] size = absurd (omega arith)
+two (a ∷ []) size = absurd (omega arith)
+two (a ∷ b ∷ []) size = refl
+two (a ∷ b ∷ c ∷ ns) size = absurd (omega arith)
 
-  module _ {found now : List ℕ} {count next : ℕ} where
-    pub entry-count : Listed EntryFields text at found now count next → ¬ (count ≡ 3) → Enters text at NoEntry
-    entry-count l other kind left right rest e =
-        other (l.counted ∙ ap length (ended-one (plain-commas 255) l.ended e).0)
+-- The question's line, by what reading it answers.
+module _ (text : List ℕ) (r : Option (Fields 2)) (f : FieldsRead AskFields 2 text r) where
+  pub ask-none : r ≡ None → FieldsRead AskFields 2 text None
+  ask-none e = subst (FieldsRead AskFields 2 text) e f
 
-    pub ask-count : Listed AskFields text at found now count next → ¬ (count ≡ 2) → AskFound text at NotAsked
-    ask-count l other entry position rest e =
-        other (l.counted ∙ ap length (ended-one (plain-commas 65535) l.ended e).0)
+  pub ask-some : {a : Fields 2} → r ≡ Some a → FieldsAt AskFields 2 text a.numbers a.rest.now
+  ask-some e = subst (FieldsRead AskFields 2 text) e f
 
-    module _ (l : Listed EntryFields text at found now count next) (size : length found ≡ 3)
-        (is : count ≡ 3) where
-      entry-three : TripleRead 255 l.numbers now
-      entry-three =
-          three 255 l.numbers now found size (sym l.counted ∙ is)
-          (commas-bounded l.ended.list.list) l.keeps
+pub ask-ended : {text ns rest : List ℕ} → FieldsAt AskFields 2 text ns rest
+    → Ended AskFields text (get_or ns 0 0 ∷ get_or ns 1 0 ∷ []) rest
+ask-ended {text} {ns} {rest} f = subst (λ l. Ended AskFields text l rest) (two ns f.size) f.ended
 
-      pub entry-small : (get_or now 0 0 ≤ 255) × (get_or now 1 0 ≤ 255) × (get_or now 2 0 ≤ 255)
-      entry-small =
-          let t = entry-three in (
-            omega (arith, t.first, t.bounds.0),
-            omega (arith, t.second, t.bounds.1),
-            omega (arith, t.third, t.bounds.2),
-          )
-
-      pub entry_read : Enters text at
-          (EntryAt (get_or now 0 0 * 65536 + get_or now 1 0 * 256 + get_or now 2 0) next)
-      entry_read = let t = entry-three in
-          record {
-            kind = t.a;
-            left = t.b;
-            right = t.c;
-            ended = subst (λ ns. Ended EntryFields (drop at text) ns (drop next text)) t.whole l.ended;
-            past = omega (arith, l.past);
-            within = l.within;
-            makes = λ i. t.first i * 65536 + t.second i * 256 + t.third i;
-          }
-
-    module _ (l : Listed AskFields text at found now count next) (size : length found ≡ 2)
-        (is : count ≡ 2) where
-      pub ask-read : AskFound text at (AskedAt (get_or now 0 0) (get_or now 1 0) next)
-      ask-read =
-          let t = two 65535 l.numbers now found size (sym l.counted ∙ is)
-          (commas-bounded l.ended.list.list) l.keeps in
-          record {
-            ended = subst (λ ns. Ended AskFields (drop at text) ns (drop next text))
-                (t.whole ∙ (λ i. sym t.first i ∷ sym t.second i ∷ [])) l.ended;
-            past = omega (arith, l.past);
-            within = l.within;
-          }
-
-      pub ask-small : (get_or now 0 0 ≤ 65535) × (get_or now 1 0 ≤ 65535)
-      ask-small =
-          let t = two 65535 l.numbers now found size (sym l.counted ∙ is)
-          (commas-bounded l.ended.list.list) l.keeps in
-          (omega (arith, t.first, t.bounds.0), omega (arith, t.second, t.bounds.1))
-
--- Lines of entries stand from a place up to another.
-pub record Entering (text : List ℕ) (from : ℕ) (found : List ℕ) (at count : ℕ) (now : List ℕ) : Type 0 where
+-- Lines of entries stand before what is left.
+pub record Entering (text found left : List ℕ) (count : ℕ) (now : List ℕ) : Type 0 where
   pub bytes : List ℕ
   pub words : List ℕ
   pub lines : EntryLines bytes words
-  pub whole : drop from text ≡ bytes ++ drop at text
-  pub past : from + count ≤ at
-  pub within : at ≤ length text
+  pub whole : text ≡ bytes ++ left
+  pub past : count + length left ≤ length text
   pub counted : count ≡ length words
   pub keeps : now ≡ put 0 (take (length found) words) found
 
-module _ {text : List ℕ} {from : ℕ} {found : List ℕ} where
-  pub enter-none : from ≤ length text → Entering text from found from 0 found
-  enter-none le = record {
+module _ {text found : List ℕ} where
+  pub enter-none : Entering text found text 0 found
+  enter-none = record {
     bytes = [];
     words = [];
     lines = none;
     whole = refl;
     past = omega arith;
-    within = le;
     counted = refl;
     keeps = kept-none found;
   }
 
-  module _ {at count : ℕ} {now : List ℕ} (g : Entering text from found at count now) where
-    pub enter-length : length now ≡ length found
-    enter-length = ap length g.keeps ∙ kept-length found g.words
-
-    pub enter-done : Enters text at NoEntry
-        → AllEntries text from found now (record { count = count; next = at })
+  module _ {left now : List ℕ} {count : ℕ} (g : Entering text found left count now) where
+    pub enter-done : FieldsRead EntryFields 3 left None → AllEntries text found now count left
     enter-done over = record {
       bytes = g.bytes;
       words = g.words;
       lines = g.lines;
       whole = g.whole;
       past = g.past;
-      within = g.within;
       counted = g.counted;
       keeps = g.keeps;
-      last = over;
+      last = λ kind left right rest. over (kind ∷ left ∷ right ∷ []) rest refl;
     }
 
-    module _ {word next : ℕ} (e : EntryRead text at word next) where
-      pub enter-turn : {then : List ℕ} → then ≡ set now count word
-          → Entering text from found next (count + 1) then
-      enter-turn stored =
-          let w : word ≡ entry_word e.kind e.left e.right = e.makes in
-          record {
-            bytes = g.bytes ++ line_of entry_key e.ended.list.fields;
-            words = g.words ++ entry_word e.kind e.left e.right ∷ [];
-            lines = another g.lines e.ended.list.list;
-            whole = g.whole ∙ ap (λ l. g.bytes ++ l) (ended-line e.ended)
-                ∙ sym (append_assoc g.bytes (line_of entry_key e.ended.list.fields) (drop next text));
-            past = omega (arith, g.past, e.past);
-            within = e.within;
-            counted = omega (
-              arith,
-              g.counted,
-              length-append g.words (entry_word e.kind e.left e.right ∷ []),
-            );
-            keeps = stored ∙ (λ i. set (g.keeps i) (g.counted i) (w i))
-                ∙ kept_more found g.words (entry_word e.kind e.left e.right);
-          }
+    module _ {ns rest : List ℕ} (e : FieldsAt EntryFields 3 left ns rest) where
+      abbrev word : ℕ
+      word = entry_word (get_or ns 0 0) (get_or ns 1 0) (get_or ns 2 0)
+
+      pub enter-turn : {then : List ℕ} → then ≡ set now count word → Entering text found rest (count + 1) then
+      enter-turn stored = record {
+        bytes = g.bytes ++ line_of entry_key e.ended.list.fields;
+        words = g.words ++ word ∷ [];
+        lines = another g.lines (subst (Commas 255 e.ended.list.fields) (three ns e.size) e.ended.list.list);
+        whole = g.whole ∙ ap (λ l. g.bytes ++ l) (ended-line e.ended)
+            ∙ sym (append_assoc g.bytes (line_of entry_key e.ended.list.fields) rest);
+        past = omega (arith, g.past, e.past);
+        counted = omega (arith, g.counted, length-append g.words (word ∷ []));
+        keeps = stored ∙ (λ i. set (g.keeps i) (g.counted i) word) ∙ kept_more found g.words word;
+      }

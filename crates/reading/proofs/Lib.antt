@@ -1,4 +1,3 @@
-pub mod Copying
 pub mod Readings
 pub mod Said
 pub mod Determined

@@ -4,7 +4,8 @@
 
 ghost use Rattle.reading.specs.Reads.{Reads};
 
-use reading::{KEPT_ENTRIES, KEPT_LETTERS, TextAnswer};
+use questions::{KEPT_ENTRIES, KEPT_LETTERS};
+use reading::TextAnswer;
 
 #[unsafe(no_mangle)]
 pub extern "C" fn chickvessel_read_text(

@@ -1,73 +1,54 @@
 -- The texts of the answers, placed line by line.
 use Prim.Native.Nat.{ℕ, ◌≤◌}
-use mathlib.Core.Path.{◌≡◌, sym, ap, subst, ◌∙◌}
+use mathlib.Core.Path.{refl}
 use mathlib.Core.List.{List, ◌++◌}
 use native.Mathlib.Omega.{arith}
-use lib.ListN.{take}
-use Rattle.schedule.specs.Figures.{Figures}
 use Rattle.trees.specs.Verdicts.{sign_of}
-use Rattle.trees.specs.declared.Verdict.{Verdict}
-use Rattle.trees.specs.declared.Verdict.TheVariants.{Holds, Violated}
-use Rattle.asking.specs.Answers.{figures_of}
-use Rattle.asking.specs.declared.Outcome.{Outcome}
-use Rattle.asking.specs.declared.Outcome.TheVariants.{Refused, NotValid, Judged}
-use Rattle.asking.proofs.Numbers.{refusal-number}
-use Rattle.rendering.specs.Texts.{refused_is, line_is, size_is, NodeLines, VerdictLine, Rendered, refused}
-use Rattle.rendering.specs.Texts.{judged, WrongText, wrong_text}
+use Rattle.asking.specs.Answers.{number_of, refused, verdict_with}
+use Rattle.asking.specs.declared.Refusal.{Refusal}
+use Rattle.asking.specs.declared.Refusal.TheVariants.{EmptyLoop, TooLong, NoTable, BadEntry, TooHigh}
+use Rattle.asking.specs.declared.Refusal.TheVariants.{NoEntry, TooFar, ShortWork, LongTree, TooLarge}
+use Rattle.asking.specs.declared.Refusal.TheVariants.{ShortTree, NotValid}
+use Rattle.asking.specs.declared.Judged.{Judged}
+use Rattle.rendering.specs.Texts.{refused_is, line_is, size_is, NodeLines, VerdictLine, Rendered, WrongText}
+use Rattle.rendering.specs.Texts
 use Rattle.printing.specs.Fields.{NumberLine}
-use Rattle.printing.specs.Placed.{Placed}
-use Rattle.printing.proofs.Placing.{placed-as, placed-then}
+use Rattle.printing.specs.inside.Puts.{Puts}
+use Rattle.printing.specs.declared.Writer.{Writer}
+use Rattle.printing.proofs.Placing.{puts-as, puts-then}
 use Rattle.printing.proofs.Fields.{Then, then}
 
--- No outcome is the refusal of a text.
-no_text : (o : Outcome) → ¬ ((figures_of o).number ≡ 13)
-no_text (Refused x) e = omega (arith, e, (refusal-number x).1)
-no_text (NotValid p) e = omega (arith, e)
-no_text (Judged v n) e = omega (arith, e)
+-- Every refusal has a number, and none the number of a wrong text.
+number-is : (x : Refusal) → (1 ≤ number_of x) × (number_of x ≤ 12)
+number-is EmptyLoop = omega arith
+number-is TooLong = omega arith
+number-is NoTable = omega arith
+number-is BadEntry = omega arith
+number-is TooHigh = omega arith
+number-is NoEntry = omega arith
+number-is TooFar = omega arith
+number-is ShortWork = omega arith
+number-is (NotValid p) = omega arith
+number-is LongTree = omega arith
+number-is TooLarge = omega arith
+number-is ShortTree = omega arith
 
-sign-is : (v : Verdict) → (1 ≤ sign_of v) × (sign_of v ≤ 2)
-sign-is Holds = omega arith
-sign-is Violated = omega arith
+module _ (words : List ℕ) {start after : Writer} where
+  pub refused-put : (x : Refusal) → Puts (NumberLine refused_is (number_of x)) start after
+      → Puts (Rendered (refused x) words) start after
+  refused-put x = puts-as (λ bs l. Texts.refused (number-is x).0 (omega (arith, (number-is x).1)) l)
 
--- What is no refusal has a verdict.
-verdict-is : (o : Outcome)
-    → (figures_of o).number ≡ 0 → (1 ≤ (figures_of o).verdict) × ((figures_of o).verdict ≤ 2)
-verdict-is (Refused x) e = absurd (omega (arith, e, (refusal-number x).0))
-verdict-is (NotValid p) e = absurd (omega (arith, e))
-verdict-is (Judged v n) e = sign-is v
-
--- The figures of an outcome, as they were made, and the lines of its text.
-module _ (o : Outcome) {f : Figures} (same : f ≡ figures_of o) (tree : List ℕ) where
-  outcome-placed : {at next : ℕ} {found left : List ℕ}
-      → Placed (Rendered f (take f.size tree)) at found left next
-      → Placed (Rendered (figures_of o) (take (figures_of o).size tree)) at found left next
-  outcome-placed {at} {next} {found} {left} p =
-      subst (λ g. Placed (Rendered g (take g.size tree)) at found left next) same p
-
-  pub refused-placed : {at next : ℕ} {found left : List ℕ} → ¬ (f.number ≡ 0)
-      → Placed (NumberLine refused_is f.number) at found left next
-      → Placed (Rendered (figures_of o) (take (figures_of o).size tree)) at found left next
-  refused-placed some p =
-      let number = ap (λ g. g.number) same in
-      outcome-placed (placed-as (λ bs l. refused (omega (arith, some)) (λ e. no_text o (sym number ∙ e)) l) p)
-
-  pub verdict-known : f.number ≡ 0 → (1 ≤ f.verdict) × (f.verdict ≤ 2)
-  verdict-known = subst (λ g. g.number ≡ 0 → (1 ≤ g.verdict) × (g.verdict ≤ 2)) (sym same) (verdict-is o)
-
-  pub judged-placed : {at second third next : ℕ} {found m n left : List ℕ} → f.number ≡ 0
-      → Placed (VerdictLine f.verdict) at found m second
-      → Placed (NumberLine size_is f.size) second m n third
-      → Placed (NodeLines (take f.size tree)) third n left next
-      → Placed (Rendered (figures_of o) (take (figures_of o).size tree)) at found left next
-  judged-placed zero v s l =
-      outcome-placed (placed-then judged-is v (placed-then (λ xs ys p q. then p q) s l))
+  pub judged-put : (j : Judged) {second third : Writer} → Puts (VerdictLine (sign_of j.verdict)) start second
+      → Puts (NumberLine size_is j.size) second third → Puts (NodeLines words) third after
+      → Puts (Rendered (verdict_with j.verdict j.size) words) start after
+  judged-put j v s l =
+      puts-then judged-is v (puts-then (λ xs ys p q. then p q) s l)
     where
-      judged-is : (xs ys : List ℕ) → VerdictLine f.verdict xs
-          → Then (NumberLine size_is f.size) (NodeLines (take f.size tree)) ys
-          → Rendered f (take f.size tree) (xs ++ ys)
-      judged-is xs ys v' (then s' l') = judged zero v' s' l'
+      judged-is : (xs ys : List ℕ) → VerdictLine (sign_of j.verdict) xs
+          → Then (NumberLine size_is j.size) (NodeLines words) ys
+          → Rendered (verdict_with j.verdict j.size) words (xs ++ ys)
+      judged-is xs ys v' (then s' l') = Texts.judged refl v' s' l'
 
-pub wrong-placed : {line middle next : ℕ} {found between left : List ℕ}
-    → Placed (NumberLine refused_is 13) 0 found between middle
-    → Placed (NumberLine line_is line) middle between left next → Placed (WrongText line) 0 found left next
-wrong-placed = placed-then (λ xs ys p q. wrong_text p q)
+pub wrong-put : {line : ℕ} {start middle after : Writer} → Puts (NumberLine refused_is 13) start middle
+    → Puts (NumberLine line_is line) middle after → Puts (WrongText line) start after
+wrong-put = puts-then (λ xs ys p q. Texts.wrong_text p q)

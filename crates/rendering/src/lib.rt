@@ -2,82 +2,59 @@
 #![tactic(auto)]
 
 ghost use Rattle.std.specs.Prelude.{◌+◌, ◌*◌, ◌≤◌, ◌<◌, length, take};
+ghost use Rattle.trees.specs.Verdicts.{sign_of};
 ghost use Rattle.asking.specs.Answers.{figures_of};
 ghost use Rattle.schedule.specs.Limits.{max_words};
 ghost use Rattle.rendering.specs.Texts.{NodeLine, NodeLines, VerdictLine, Rendered, WrongText};
 ghost use Rattle.rendering.specs.Texts.{LongText};
 ghost use Rattle.printing.specs.Placed.{Placed};
+ghost use Rattle.printing.specs.inside.Puts.{Puts};
 
-use asking::{Outcome, answer_of};
+use asking::Outcome;
 use decimals::{COMMA, NEWLINE};
-use printing::{copy, field, number_line};
+use printing::Writer;
+use trees::Verdict;
 
 // The bytes lent for a text: 4,095 lines of at most 19 bytes, the two lines before them, and room for any
 // number of 32 bits behind each place.
 pub const MAX_OUTPUT: usize = 77845;
 
-// "refused="
-const REFUSED: [u8; 8] = [114, 101, 102, 117, 115, 101, 100, 61];
+const REFUSED: &[u8] = b"refused=";
 
-// "line="
-const LINE: [u8; 5] = [108, 105, 110, 101, 61];
-
-// "verdict="
-const VERDICT: [u8; 8] = [118, 101, 114, 100, 105, 99, 116, 61];
-
-// "holds" and a newline
-const HOLDS: [u8; 6] = [104, 111, 108, 100, 115, 10];
-
-// "violated" and a newline
-const VIOLATED: [u8; 9] = [118, 105, 111, 108, 97, 116, 101, 100, 10];
-
-// "size="
-const SIZE: [u8; 5] = [115, 105, 122, 101, 61];
-
-// "node="
-const NODE: [u8; 5] = [110, 111, 100, 101, 61];
-
-// Writes the line of a tree's word.
-fn node_line(out: &mut [u8], at: usize, word: u32) -> usize
-    requires { at + 24 ≤ length out.old }
-    ensures { Placed (NodeLine word) at out.old out.new result × (result ≤ at + 19) }
+// Writes the line of a tree's word. (Divided here: a `Node` has fields of usize, which would be cast back to
+// 32 bits.)
+fn node_line(output: &mut Writer<'_>, word: u32)
+    requires { output.old.at + 24 ≤ length output.old.bytes.now }
+    ensures line { Puts (NodeLine word) output.old output.new }
+    ensures short { output.new.at ≤ output.old.at + 19 }
 {
-    let label = NODE;
-    let rule = copy(out, at, &label);
-    let atom = field(out, rule, word / 16777216, COMMA);
-    let number = field(out, atom, word / 65536 % 256, COMMA);
-    field(out, number, word % 65536, NEWLINE)
+    output.text(b"node=");
+    output.field(word / 16777216, COMMA);
+    output.field(word / 65536 % 256, COMMA);
+    output.field(word % 65536, NEWLINE);
 }
 
 // Writes the lines of a tree's words.
-fn node_lines(out: &mut [u8], at: usize, tree: &[u32], size: usize) -> usize
-    requires { (size ≤ length tree.now) × (at + size * 19 + 5 ≤ length out.old) }
-    ensures { Placed (NodeLines (take size tree.now)) at out.old
-        out.new result }
+fn node_lines(output: &mut Writer<'_>, tree: &[u32])
+    requires { output.old.at + length tree.now * 19 + 5 ≤ length output.old.bytes.now }
+    ensures { Puts (NodeLines tree.now) output.old output.new }
 {
-    let mut next = at;
-    let mut k = 0;
-    while k < size {
-        next = node_line(out, next, tree[k]);
-        k += 1;
+    for word in tree {
+        node_line(output, *word);
     }
-    next
 }
 
-// Writes the line of a verdict figure.
-fn verdict_line(out: &mut [u8], at: usize, verdict: u32) -> usize
-    requires { (1 ≤ verdict) × (verdict ≤ 2) × (at + 17 ≤ length out.old) }
-    ensures { Placed (VerdictLine verdict) at out.old out.new result
-        × (result ≤ at + 17) }
+// Writes the line of a verdict.
+fn verdict_line(output: &mut Writer<'_>, verdict: Verdict)
+    requires { output.old.at + 17 ≤ length output.old.bytes.now }
+    ensures line { Puts (VerdictLine (sign_of verdict)) output.old output.new }
+    ensures short { output.new.at ≤ output.old.at + 17 }
 {
-    let label = VERDICT;
-    let next = copy(out, at, &label);
-    if verdict == 1 {
-        let text = HOLDS;
-        return copy(out, next, &text);
+    output.text(b"verdict=");
+    match verdict {
+        Verdict::Holds => output.text(b"holds\n"),
+        Verdict::Violated => output.text(b"violated\n"),
     }
-    let text = VIOLATED;
-    copy(out, next, &text)
 }
 
 // Writes the text of an answer and its tree to the front; answers its length.
@@ -87,33 +64,35 @@ pub fn rendered(out: &mut [u8; MAX_OUTPUT], outcome: Outcome, tree: &[u32]) -> u
         (Rendered (figures_of outcome) (take (figures_of outcome).size tree.now)) 0
         out.old out.new result }
 {
-    let answer = answer_of(outcome);
-    let number = answer.number;
-    if number != 0 {
-        let label = REFUSED;
-        return number_line(out, 0, &label, number);
+    let mut output = Writer::new(out);
+    match outcome {
+        Err(refusal) => output.number_line(REFUSED, u32::from(refusal)),
+        Ok(judged) => {
+            verdict_line(&mut output, judged.verdict);
+            output.number_line(b"size=", judged.size);
+            node_lines(&mut output, &tree[..judged.size as usize]);
+        }
     }
-    let next = verdict_line(out, 0, answer.verdict);
-    let label = SIZE;
-    let lines = number_line(out, next, &label, answer.size);
-    node_lines(out, lines, tree, answer.size as usize)
+    output.at
 }
 
-// Writes the text of refusal 13 to the front; answers its length.
+// Writes the text of refusal 13 to the front; answers its length. (13 and 14 are earned by texts alone, so
+// they are no case of `Refusal`.)
 pub fn wrong_text(out: &mut [u8; MAX_OUTPUT], line: usize) -> usize
     requires { line < 4294967296 }
     ensures { Placed (WrongText line) 0 out.old out.new result }
 {
-    let label = REFUSED;
-    let next = number_line(out, 0, &label, 13);
-    let label = LINE;
-    number_line(out, next, &label, line as u32)
+    let mut output = Writer::new(out);
+    output.number_line(REFUSED, 13);
+    output.number_line(b"line=", line as u32);
+    output.at
 }
 
 // Writes the text of refusal 14 to the front; answers its length.
 pub fn long_text(out: &mut [u8; MAX_OUTPUT]) -> usize
     ensures { Placed LongText 0 out.old out.new result }
 {
-    let label = REFUSED;
-    number_line(out, 0, &label, 14)
+    let mut output = Writer::new(out);
+    output.number_line(REFUSED, 14);
+    output.at
 }

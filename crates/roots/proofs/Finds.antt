@@ -8,7 +8,8 @@ use mathlib.Core.List.{List, ◌∷◌}
 use native.Mathlib.Decide.{dec_lt}
 use native.Mathlib.Omega.{arith}
 use Rattle.rules.specs.Formula.{Formula}
-use Rattle.trees.specs.Nodes.{Node, node}
+use Rattle.trees.specs.Nodes.{node}
+use Rattle.trees.specs.declared.Node.{Node}
 use Rattle.trees.specs.Rules.{Frame, claim}
 use Rattle.trees.specs.Least.{Cost, cost_of, NodeBefore, by_rule, by_number, Least}
 use Rattle.trees.specs.declared.Verdict.{Verdict}

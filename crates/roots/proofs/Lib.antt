@@ -1,9 +1,7 @@
-pub mod Choices
 pub mod Finds
 pub mod ListFinds
 pub mod ListRoots
 pub mod Meets
 pub mod PartPrices
 pub mod PlainFinds
-pub mod RootLaws
 pub mod Sums

@@ -6,7 +6,8 @@ use mathlib.Core.List.{List, ◌∷◌}
 use native.Mathlib.Omega.{arith}
 use Rattle.rules.specs.Formula.{Formula, since, until, height}
 use Rattle.rules.specs.declared.Side.TheVariants.{Past}
-use Rattle.trees.specs.Nodes.{Node, node}
+use Rattle.trees.specs.Nodes.{node}
+use Rattle.trees.specs.declared.Node.{Node}
 use Rattle.trees.specs.Rules.{Frame, Claim, claim, Rule, rule11, rule12, rule13, rule14, rule15, rule16}
 use Rattle.trees.specs.Least.{Cost, cost_of, Least}
 use Rattle.trees.specs.declared.Verdict.{Verdict}

@@ -7,7 +7,8 @@ use native.Mathlib.Omega.{arith}
 use borrow.Author.Tests.{eq-eqb, ne_eqb}
 use lib.Dec.{eqb}
 use Rattle.rules.specs.Formula.{Formula, atom, notᶠ, orᶠ, andᶠ}
-use Rattle.trees.specs.Nodes.{Node, node}
+use Rattle.trees.specs.Nodes.{node}
+use Rattle.trees.specs.declared.Node.{Node}
 use Rattle.trees.specs.Rules.{Frame, Claim, claim, Rule, rule1, rule2, rule3, rule4, rule5, rule6, rule7}
 use Rattle.trees.specs.Rules.{rule8, rule9, rule10}
 use Rattle.trees.specs.Least.{Cost, cost_of, NodeBefore, by_rule, Least}

@@ -1,21 +1,43 @@
-// A row of the work slice, filled from the rows of its parts: one loop a kind.
+// A row of the work slice, filled from the rows of its parts: one loop a kind. Cells are read and written at
+// their index, since the row that is written lies in the slice that is read, and a row, its parts and its
+// columns are parameters, since a struct of them would be made once a call.
 #![tactic(auto)]
 
-ghost use Rattle.std.specs.Prelude.{◌≡◌, ◌+◌, ◌*◌, ◌<◌, ◌≤◌, length};
+ghost use Rattle.std.specs.Prelude.{ℕ, ◌≡◌, ◌+◌, ◌*◌, ◌<◌, ◌≤◌, length};
 ghost use Rattle.schedule.specs.Letters.{letter_at};
 ghost use Rattle.theory.specs.inside.RunCosts.{sum_run};
 ghost use Rattle.cells.specs.inside.Cells.{con_of, plain_cell, since_cell, until_state, until_cell};
 ghost use Rattle.cells.specs.inside.Cells.{atom_cell};
+ghost use Rattle.cells.specs.inside.Stands.{Stand};
 ghost use Rattle.rows.specs.inside.Rows.{row_of, RowReady, Filled, row_length};
 ghost use Rattle.schedule.specs.Limits.{work_length, max_entries};
 
-use cells::{CUT_OFF, Connective, State, atom_cell, cell, con, plain_state, slid, step, stored};
-use schedule::letter;
+use cells::{CUT_OFF, State, atom_cell, con, slid};
+use schedule::LentLetters;
 
 // Cells of a row of the work slice: an entry has one row, a position one cell.
 pub const ROW_LENGTH: usize = 512;
 
-// A since, from its parts' rows: rising, from before 0.
+// The cells of a work slice, as they are read: whoever lends one has seen that it has its length.
+#[derive(Clone, Copy)]
+pub struct Cells<'a> {
+    pub work: &'a [u16],
+    ghost room: { work_length ≤ length work.now },
+}
+
+impl<'a> Cells<'a> {
+    // The cell of an entry at a position. (Bounds are clauses: both are plain indices, and each reader has
+    // others for them.)
+    pub fn at(self, entry: usize, position: usize) -> u16
+        requires { (entry < max_entries) × (position < row_length) }
+        ensures { result ≡ row_of self.entry.work.now entry position }
+    {
+        self.work[entry * ROW_LENGTH + position]
+    }
+}
+
+// A since, from its parts' rows: rising, from before 0. A loop of its own beside the plain kinds: its state
+// goes from cell to cell, which the contract of a closure says less plainly.
 pub fn since_row(work: &mut [u16], row: usize, left: usize, right: usize, cols: usize)
     requires { RowReady row left right cols (length work.old) }
     ensures { Filled row cols
@@ -27,70 +49,63 @@ pub fn since_row(work: &mut [u16], row: usize, left: usize, right: usize, cols: 
         pro: CUT_OFF,
         con: 1,
     };
-    let mut p = 0;
-    while p < cols {
-        x = step(x, work[left * ROW_LENGTH + p], work[right * ROW_LENGTH + p]);
-        work[row * ROW_LENGTH + p] = cell(x);
-        p = p + 1;
+    for p in 0..cols {
+        x = x.step(work[left * ROW_LENGTH + p], work[right * ROW_LENGTH + p]);
+        work[row * ROW_LENGTH + p] = x.cell();
     }
 }
 
-// A negation, a disjunction or a conjunction, from its parts' rows. A negation names its part twice.
-pub fn plain_row(
+// A negation, a disjunction or a conjunction, from its parts' rows: position by position, by the state made
+// of the two cells there. A negation names its part twice.
+pub fn plain_row<F: Fn(u16, u16) -> State>(
     work: &mut [u16],
     row: usize,
-    kind: Connective,
     left: usize,
     right: usize,
     cols: usize,
+    state: F,
 )
-    requires { RowReady row left right cols (length work.old) }
+    ghost make: { ℕ → ℕ → Stand }
+    requires ready { RowReady row left right cols (length work.old) }
+    requires callable { F.IsAlwaysCallable state }
+    requires made { (a b : ℕ) (x : Stand) → F.post state a b x → x ≡ make a b }
     ensures { Filled row cols
-        (plain_cell kind (row_of work.old left) (row_of work.old right))
+        (plain_cell make (row_of work.old left) (row_of work.old right))
         work.old work.new }
 {
-    let mut p = 0;
-    while p < cols {
-        work[row * ROW_LENGTH + p] = cell(plain_state(
-            kind,
-            work[left * ROW_LENGTH + p],
-            work[right * ROW_LENGTH + p],
-        ));
-        p = p + 1;
+    for p in 0..cols {
+        let x = state(work[left * ROW_LENGTH + p], work[right * ROW_LENGTH + p]);
+        work[row * ROW_LENGTH + p] = x.cell();
     }
 }
 
 // Where the loop of an until stands: its state, and the sum of `con` over rule 16's window.
-#[derive(Clone, Copy)]
-pub struct Carried {
-    pub state: State,
-    pub sum: u32,
+struct Carried {
+    state: State,
+    sum: u32,
 }
 
-// An until's state one lap in, and the sum of that lap.
-fn run_in(work: &[u16], left: usize, right: usize, cols: usize, lap: usize) -> Carried
-    requires { (left < max_entries) × (right < max_entries) × (cols + lap ≤ row_length)
-        × (work_length ≤ length work.now) }
-    ensures { (result.state
-        ≡ until_state (row_of work.now left) (row_of work.now right) (cols + lap) lap)
-        × (result.sum ≡ sum_run (λ q. con_of (row_of work.now right q)) cols lap)
+// An until's state one lap in, and the sum of that lap. (A loop of its own: it stores nothing, and its sum
+// grows where the other's slides.)
+fn run_in(cells: Cells<'_>, left: usize, right: usize, cols: usize, lap: usize) -> Carried
+    requires { (left < max_entries) × (right < max_entries) × (cols + lap ≤ row_length) }
+    ensures { let work = cells.entry.work.now in
+        (result.state ≡ until_state (row_of work left) (row_of work right) (cols + lap) lap)
+        × (result.sum ≡ sum_run (λ q. con_of (row_of work right q)) cols lap)
         × (result.sum ≤ 65535 * lap) }
 {
-    let top = cols + lap;
     let mut x = State {
         holds: false,
         pro: CUT_OFF,
         con: CUT_OFF,
     };
     let mut sum: u32 = 0;
-    let mut d = 0;
-    while d < lap {
-        d = d + 1;
-        let b = work[right * ROW_LENGTH + (top - d)];
-        x = step(x, work[left * ROW_LENGTH + (top - d)], b);
-        sum = sum + con(b);
+    for p in (cols..cols + lap).rev() {
+        let b = cells.at(right, p);
+        x = x.step(cells.at(left, p), b);
+        sum += con(b);
     }
-    Carried { state: x, sum: sum }
+    Carried { state: x, sum }
 }
 
 // An until, from its parts' rows: falling, from one lap past the last column;
@@ -110,36 +125,25 @@ pub fn until_row(
         (until_cell (row_of work.old left) (row_of work.old right) cols lap start)
         work.old work.new }
 {
-    let run = run_in(work, left, right, cols, lap);
-    let top = cols + lap;
-    let mut x = run.state;
-    let mut sum = run.sum;
-    let mut d = lap;
-    while d < top {
-        d = d + 1;
-        let p = top - d;
+    let Carried {
+        state: mut x,
+        mut sum,
+    } = run_in(Cells { work }, left, right, cols, lap);
+    for p in (0..cols).rev() {
         let b = work[right * ROW_LENGTH + p];
-        x = step(x, work[left * ROW_LENGTH + p], b);
+        x = x.step(work[left * ROW_LENGTH + p], b);
         sum = slid(sum, b, work[right * ROW_LENGTH + (p + lap)], start <= p);
-        work[row * ROW_LENGTH + p] = stored(x, sum);
+        work[row * ROW_LENGTH + p] = x.stored(sum);
     }
 }
 
-pub fn atom_row<'a>(
-    prefix: &'a [u32],
-    looped: &'a [u32],
-    work: &mut [u16],
-    row: usize,
-    atom: usize,
-    cols: usize,
-)
+// An atom, from the letters. It has no parts' rows, so it shares no loop with the kinds above.
+pub fn atom_row(letters: LentLetters<'_>, work: &mut [u16], row: usize, atom: usize, cols: usize)
     requires { (work_length ≤ length work.old) × (row < max_entries) × (cols ≤ row_length) }
-    ensures { Filled row cols (atom_cell (letter_at prefix.now looped.now) atom)
+    ensures { Filled row cols (atom_cell (letter_at letters.entry.prefix.now letters.entry.looped.now) atom)
         work.old work.new }
 {
-    let mut p = 0;
-    while p < cols {
-        work[row * ROW_LENGTH + p] = atom_cell(letter(prefix, looped, p), atom);
-        p = p + 1;
+    for p in 0..cols {
+        work[row * ROW_LENGTH + p] = atom_cell(letters.letter(p), atom);
     }
 }

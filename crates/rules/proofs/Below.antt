@@ -1,28 +1,20 @@
--- A test at every index below a bound: how a loop adds one, and where it stops.
+-- A test at every index below a bound: what it says of each, and that chains over a range and over a list's
+-- elements test just that.
 use mathlib.Core.Path.{◌≡◌, refl, sym, ap, ◌∙◌}
-use mathlib.Core.Bool.{Bool, true, false, ◌&&◌, and-false}
+use mathlib.Core.Bool.{Bool, true, ◌&&◌, and-true}
+use mathlib.Core.List.{List, [], ◌∷◌}
 use mathlib.Core.Logic.{◌↔◌, ⊎_elim}
-use Prim.Native.Nat.{ℕ, zero, suc, ◌+◌, ◌<◌, ◌≤◌}
-use native.Mathlib.Nat.{not-suc-le-zero, le_of_suc-le-suc, eq-or-lt_of_le, suc_inj, le_antisymm, le_step}
-use native.Mathlib.Nat.{le_refl}
-use native.Mathlib.Numerals.{add-one}
+use Prim.Native.Nat.{ℕ, zero, suc, ◌+◌, ◌<◌}
+use native.Mathlib.Nat.{not-suc-le-zero, le_of_suc-le-suc, eq-or-lt_of_le, suc_inj, le_step}
+use native.Mathlib.Nat.{le_refl, suc-add, zero-add}
+use Rattle.std.proofs.Math.Bool.{and_assoc}
+use native.Mathlib.Numerals.{unary_clauses}
+use lib.ListN.{length, get_or}
+use Rattle.std.specs.List.{list_all, range_with_len, enumerate_from}
 use Rattle.rules.specs.Tables.{all_below}
 use Rattle.schedule.proofs.Tests.{and_both}
 
 module _ (test : ℕ → Bool) where
-  pub all_more : (n : ℕ) → all_below n test ≡ true → test n ≡ true → all_below (n + 1) test ≡ true
-  all_more n all one = rw add-one (simp (all, one))
-
-  pub all-stop : (n k : ℕ) → k < n → test k ≡ false → all_below n test ≡ false
-  all-stop zero k lt f = absurd (not-suc-le-zero lt)
-  all-stop (suc n) k lt f =
-      ⊎_elim (λ e. ap (λ j. all_below n test && test j) (sym (suc_inj e)) ∙ ap (λ b. all_below n test && b) f
-      ∙ and-false (all_below n test))
-      (λ below. ap (λ b. b && test n) (all-stop n k (le_of_suc-le-suc below) f)) (eq-or-lt_of_le lt)
-
-  pub all_done : (n e : ℕ) → e ≤ n → n ≤ e → all_below e test ≡ true → all_below n test ≡ true
-  all_done n e le ge all = ap (λ m. all_below m test) (le_antisymm ge le) ∙ all
-
   pub all-at : (n k : ℕ) → all_below n test ≡ true → k < n → test k ≡ true
   all-at zero k all lt = absurd (not-suc-le-zero lt)
   all-at (suc n) k all lt =
@@ -37,3 +29,33 @@ module _ (test : ℕ → Bool) where
 
   pub all-exact : (n : ℕ) → (all_below n test ≡ true) ↔ ((k : ℕ) → k < n → test k ≡ true)
   all-exact n = (λ all k lt. all-at n k all lt, every n)
+
+-- the first index apart from those after it
+all_first : (n : ℕ) (test : ℕ → Bool) → all_below (suc n) test ≡ (test 0 && all_below n (λ k. test (suc k)))
+all_first zero test = sym (and-true (test 0))
+all_first (suc n) test =
+    ap (λ b. b && test (suc n)) (all_first n test) ∙ and_assoc (test 0) (all_below n (λ k. test (suc k))) _
+
+-- of indices from k on, and of elements numbered from k on
+all_ranged : (n k : ℕ) (test : ℕ → Bool)
+    → list_all test (range_with_len k n) ≡ all_below n (λ j. test (k + j))
+all_ranged zero k test = refl
+all_ranged (suc n) k test =
+    let rest = ap (λ b. test k && b) (all_ranged n (k + 1) test) in
+    simp (all_first n (λ j. test (k + j)), unary_clauses) (simp (unary_clauses, suc-add) at rest)
+
+all_numbered : (xs : List ℕ) (k : ℕ) (test : ℕ → ℕ → Bool)
+    → list_all (λ p. test p.0 p.1) (enumerate_from k xs)
+    ≡ all_below (length xs) (λ j. test (k + j) (get_or xs j 0))
+all_numbered [] k test = refl
+all_numbered (x ∷ xs) k test =
+    let rest = ap (λ b. test k x && b) (all_numbered xs (k + 1) test) in
+    simp (all_first (length xs) (λ j. test (k + j) (get_or (x ∷ xs) j 0)), unary_clauses)
+    (simp (unary_clauses, suc-add) at rest)
+
+pub all_range : (n : ℕ) (test : ℕ → Bool) → list_all test (range_with_len 0 n) ≡ all_below n test
+all_range n test = all_ranged n 0 test ∙ simp zero-add
+
+pub all_enumerated : (xs : List ℕ) (test : ℕ → ℕ → Bool)
+    → list_all (λ p. test p.0 p.1) (enumerate_from 0 xs) ≡ all_below (length xs) (λ j. test j (get_or xs j 0))
+all_enumerated xs test = all_numbered xs 0 test ∙ simp zero-add

@@ -1,70 +1,24 @@
--- The kind table's rows, a law a return; what an entry is, by its operator;
--- and its parts are earlier entries.
+-- The kind table's rows of one part; what an entry is, by its operator; and its parts are earlier entries.
 use mathlib.Core.Path.{◌≡◌, refl, ap, ◌∙◌}
 use mathlib.Core.Bool.{Bool, true, false, cond, ◌&&◌}
-use Prim.Native.Nat.{ℕ, ◌/◌, ◌%◌, ◌<◌, ◌≤◌}
-use native.Mathlib.Omega.{arith}
+use Prim.Native.Nat.{ℕ, ◌/◌, ◌%◌, ◌<◌}
 use lib.Dec.{eqb, ltb, leb}
-use borrow.Author.Tests.{eq-eqb, ne_eqb, lt-ltb, le-ltb, le-leb, lt-leb, ltb-true}
-use Rattle.rules.specs.Entries.{is_alone, are_earlier, binary_of, pair_of, entry_from, entry_of}
+use borrow.Author.Tests.{eq-eqb, ne_eqb, ltb-true}
+use Rattle.rules.specs.Entries.{is_alone, are_earlier, entry_from, entry_of}
 use Rattle.rules.specs.declared.Entry.{Entry}
 use Rattle.rules.specs.declared.Entry.TheVariants.{Atom, One, Two, Broken}
 use Rattle.rules.specs.declared.Unary.{Unary}
 use Rattle.rules.specs.declared.Unary.TheVariants.{Not}
 use Rattle.rules.specs.declared.Binary.{Binary}
-use Rattle.rules.specs.declared.Binary.TheVariants.{Until}
 use Rattle.schedule.proofs.Tests.{and_both}
 
-module _ (bound l r : ℕ) where
-  pub alone-below : l < bound → eqb r 0 ≡ is_alone bound l r
-  unfolding is_alone
-  alone-below lt = simp (lt-ltb l bound lt)
-
-  pub alone-past : bound ≤ l → ltb l bound ≡ is_alone bound l r
-  unfolding is_alone
-  alone-past le = simp (le-ltb l bound le)
-
-  pub earlier-below : l < bound → ltb r bound ≡ are_earlier bound l r
-  unfolding are_earlier
-  earlier-below lt = simp (lt-ltb l bound lt)
-
-  pub earlier-past : bound ≤ l → ltb l bound ≡ are_earlier bound l r
-  unfolding are_earlier
-  earlier-past le = simp (le-ltb l bound le)
-
-pub joint-last : (k : ℕ) → (k ≡ 2 → ⊥) → (k ≡ 3 → ⊥) → (k ≡ 4 → ⊥) → Until ≡ binary_of k
-joint-last k n m o = simp (ne_eqb k 2 n, ne_eqb k 3 m, ne_eqb k 4 o)
-
 module _ (i k l r : ℕ) where
-  pub pair-late : are_earlier i l r ≡ false → Broken ≡ pair_of i k l r
-  unfolding pair_of
-  pair-late e = simp e
-
-  pub pair-kind : (op : Binary) → are_earlier i l r ≡ true → 2 ≤ k → k ≤ 5 → op ≡ binary_of k
-      → Two op l r ≡ pair_of i k l r
-  unfolding pair_of
-  pair-kind op e low high p = ap (λ q. Two q l r) p ∙ simp (e, le-leb 2 k low, le-leb k 5 high)
-
-  pub pair-below : are_earlier i l r ≡ true → k < 2 → Broken ≡ pair_of i k l r
-  unfolding pair_of
-  pair-below e lt = simp (e, lt-leb 2 k lt)
-
-  pub pair-past : are_earlier i l r ≡ true → 5 < k → Broken ≡ pair_of i k l r
-  unfolding pair_of
-  pair-past e lt = simp (e, le-leb 2 k (omega arith), lt-leb k 5 lt)
-
   pub entry-atom : (t : Bool) → k ≡ 0 → is_alone 32 l r ≡ t → cond t (Atom l) Broken ≡ entry_from i k l r
-  unfolding entry_from
   entry-atom t e p = simp (eq-eqb k 0 e, p)
 
   pub entry-not : (t : Bool) → (k ≡ 0 → ⊥) → k ≡ 1 → is_alone i l r ≡ t
       → cond t (One Not l) Broken ≡ entry_from i k l r
-  unfolding entry_from
   entry-not t n e p = simp (ne_eqb k 0 n, eq-eqb k 1 e, p)
-
-  pub entry-pair : (k ≡ 0 → ⊥) → (k ≡ 1 → ⊥) → pair_of i k l r ≡ entry_from i k l r
-  unfolding entry_from
-  entry-pair n m = simp (ne_eqb k 0 n, ne_eqb k 1 m)
 
 -- an entry of one part or of two, once its operator is known
 pub one-is : {x : Entry} {op : Unary} {l : ℕ} → x ≡ One op l → x ≡ One Not l
@@ -90,18 +44,16 @@ PartsBelow i (Two op l r) = (l < i) × (r < i)
 PartsBelow i Broken = Unit
 
 alone-is : (i l r : ℕ) → is_alone i l r ≡ true → l < i
-unfolding is_alone
 alone-is i l r e = ltb-true l i (and_both (ltb l i) (eqb r 0) e).0
 
 earlier-are : (i l r : ℕ) → are_earlier i l r ≡ true → (l < i) × (r < i)
-unfolding are_earlier
 earlier-are i l r e =
     let both = and_both (ltb l i) (ltb r i) e in
     (ltb-true l i both.0, ltb-true r i both.1)
 
 -- The parts of an entry are earlier entries.
 pub parts-earlier : (i w : ℕ) → PartsBelow i (entry_of i w)
-unfolding entry_of entry_from pair_of
+unfolding entry_of
 parts-earlier i w =
     let k = w / 65536 in
     let l = w / 256 % 256 in

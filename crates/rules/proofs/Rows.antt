@@ -7,7 +7,7 @@ use native.Mathlib.Omega.{arith}
 use borrow.Author.Tests.{eq-eqb, ne_eqb, lt-ltb, le-leb}
 use lib.ListN.{get_or}
 use Rattle.rules.specs.Formula.{atom, notᶠ, orᶠ, andᶠ, since, until}
-use Rattle.rules.specs.Entries.{is_alone, are_earlier, binary_of, pair_of, entry_from, entry_of}
+use Rattle.rules.specs.Entries.{binary_of, entry_of}
 use Rattle.rules.specs.Tables.{entry_at, joined, build, formula_of}
 use Rattle.rules.specs.declared.Entry.{Entry}
 use Rattle.rules.specs.declared.Entry.TheVariants.{Atom, One, Two}
@@ -28,14 +28,14 @@ module _ (table : List ℕ) (e : ℕ) where
   by-entry x is = formula-unrolls table e ∙ ap (build (formula_of table)) is
 
   pub kind-atom : kind ≡ 0 → left < 32 → right ≡ 0 → formula_of table e ≡ atom left
-  unfolding entry_of entry_from is_alone
+  unfolding entry_of
   kind-atom k l r = by-entry (Atom left) is
     where
       is : entry_at table e ≡ Atom left
       is = simp (eq-eqb kind 0 k, lt-ltb left 32 l, eq-eqb right 0 r)
 
   pub kind-not : kind ≡ 1 → left < e → right ≡ 0 → formula_of table e ≡ notᶠ (formula_of table left)
-  unfolding entry_of entry_from is_alone
+  unfolding entry_of
   kind-not k l r = by-entry (One Not left) is
     where
       is : entry_at table e ≡ One Not left
@@ -43,7 +43,7 @@ module _ (table : List ℕ) (e : ℕ) where
 
   kind-two : 2 ≤ kind → kind ≤ 5 → left < e → right < e
       → formula_of table e ≡ joined (binary_of kind) (formula_of table left) (formula_of table right)
-  unfolding entry_of entry_from pair_of are_earlier
+  unfolding entry_of
   kind-two low high l r = by-entry (Two (binary_of kind) left right) is
     where
       is : entry_at table e ≡ Two (binary_of kind) left right

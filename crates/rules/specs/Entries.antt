@@ -7,11 +7,11 @@ use Rattle.rules.specs.declared.Binary.{Binary}
 use Rattle.rules.specs.declared.Binary.TheVariants.{Or, And, Since, Until}
 
 -- A field below a bound, and the other 0.
-unfoldable pub is_alone : ℕ → ℕ → ℕ → Bool
+abbrev pub is_alone : ℕ → ℕ → ℕ → Bool
 is_alone bound l r = ltb l bound && eqb r 0
 
 -- Two earlier entries.
-unfoldable pub are_earlier : ℕ → ℕ → ℕ → Bool
+abbrev pub are_earlier : ℕ → ℕ → ℕ → Bool
 are_earlier i l r = ltb l i && ltb r i
 
 -- Kinds 2 to 5: or, and, since, until.
@@ -19,11 +19,11 @@ abbrev pub binary_of : ℕ → Binary
 binary_of k = cond (eqb k 2) Or (cond (eqb k 3) And (cond (eqb k 4) Since Until))
 
 -- Of two earlier entries. There is no kind above 5.
-unfoldable pub pair_of : ℕ → ℕ → ℕ → ℕ → Entry
+abbrev pub pair_of : ℕ → ℕ → ℕ → ℕ → Entry
 pair_of i k l r = cond (are_earlier i l r && (leb 2 k && leb k 5)) (Two (binary_of k) l r) Broken
 
 -- Kind 0: atom 0 to 31, right 0. Kind 1: not an earlier entry, right 0.
-unfoldable pub entry_from : ℕ → ℕ → ℕ → ℕ → Entry
+abbrev pub entry_from : ℕ → ℕ → ℕ → ℕ → Entry
 entry_from i k l r =
     cond (eqb k 0) (cond (is_alone 32 l r) (Atom l) Broken)
     (cond (eqb k 1) (cond (is_alone i l r) (One Not l) Broken)

@@ -1,11 +1,10 @@
 // Rule tables: what an entry says, whether all keep the kind table, and the record that a list is read into.
 #![tactic(auto)]
 
-ghost use Rattle.std.specs.Prelude.{◌≡◌, ◌≤◌, ◌<◌, length};
+ghost use Rattle.std.specs.Prelude.{◌≡◌, ◌≤◌, length, take};
 ghost use Rattle.schedule.specs.Limits.{max_entries};
-ghost use Rattle.rules.specs.Entries.{entry_of, is_alone, are_earlier, binary_of, pair_of, is_kept};
+ghost use Rattle.rules.specs.Entries.{entry_of};
 ghost use Rattle.rules.specs.Tables.{entry_at, keeps_all};
-ghost use Rattle.rules.specs.inside.Records.{table_of};
 
 use schedule::Schedule;
 
@@ -18,7 +17,8 @@ pub enum Side {
     Future,
 }
 
-// What a word of a table says at its place: an atom, or an operator and its parts.
+// What a word of a table says at its place: an atom, or an operator and its parts. A broken word has a
+// formula too (atom 0), which every reader of entries meets: so it is an entry, and not the lack of one.
 #[derive(Clone, Copy)]
 pub enum Entry {
     Atom(usize),
@@ -27,7 +27,7 @@ pub enum Entry {
     Broken,
 }
 
-// The operators of one part.
+// The operators of one part: there is one.
 #[derive(Clone, Copy)]
 pub enum Unary {
     Not,
@@ -42,122 +42,70 @@ pub enum Binary {
     Until,
 }
 
-// A table once read: its entries and their count.
+// A table once read: its entries and their count. An array with a length, since nothing here allocates.
 #[derive(Drop)]
 pub struct Table {
     pub words: [u32; Schedule::MAX_ENTRIES],
     pub len: usize,
+    pub ghost within: { len ≤ max_entries },
 }
 
-// An entry with one field keeps the kind table if that lies below its bound and the other is 0.
-fn alone(bound: usize, left: usize, right: usize) -> bool
-    ensures { result ≡ is_alone bound left right }
+// The entry of a word at its index: the kind table, row by row. (A word is taken apart here alone, by
+// casts, for usize has no From<u32>. It is no conversion, since what it says depends on its place.)
+#[tactic(auto, unfolding(crate::specs::Entries::entry_of))]
+pub fn entry_of(index: usize, word: u32) -> Entry
+    ensures { result ≡ entry_of index word }
 {
-    left < bound && right == 0
-}
-
-// One with two fields, if both are earlier entries.
-fn earlier(index: usize, left: usize, right: usize) -> bool
-    ensures { result ≡ are_earlier index left right }
-{
-    left < index && right < index
-}
-
-// The operator of kinds 2 to 5.
-fn joint(kind: u32) -> Binary
-    requires { (2 ≤ kind) × (kind ≤ 5) }
-    ensures { result ≡ binary_of kind }
-{
-    match kind {
-        2 => Binary::Or,
-        3 => Binary::And,
-        4 => Binary::Since,
-        _ => Binary::Until,
-    }
-}
-
-fn pair(index: usize, kind: u32, left: usize, right: usize) -> Entry
-    ensures { result ≡ pair_of index kind left right }
-{
-    if !earlier(index, left, right) {
-        return Entry::Broken;
-    }
-    match kind {
-        2..=5 => Entry::Two(joint(kind), left, right),
+    let left = (word / 256 % 256) as usize;
+    let right = (word % 256) as usize;
+    let earlier = left < index && right < index;
+    match word / 65536 {
+        0 if left < ATOMS && right == 0 => Entry::Atom(left),
+        1 if left < index && right == 0 => Entry::One(Unary::Not, left),
+        2 if earlier => Entry::Two(Binary::Or, left, right),
+        3 if earlier => Entry::Two(Binary::And, left, right),
+        4 if earlier => Entry::Two(Binary::Since, left, right),
+        5 if earlier => Entry::Two(Binary::Until, left, right),
         _ => Entry::Broken,
     }
 }
 
-// The entry of a word at its index.
-pub fn entry_of(index: usize, word: u32) -> Entry
-    ensures { result ≡ entry_of index word }
-{
-    let kind = word / 65536;
-    let left = (word / 256 % 256) as usize;
-    let right = (word % 256) as usize;
-    if kind == 0 {
-        if alone(ATOMS, left, right) {
-            return Entry::Atom(left);
-        }
-        return Entry::Broken;
-    }
-    if kind == 1 {
-        if alone(index, left, right) {
-            return Entry::One(Unary::Not, left);
-        }
-        return Entry::Broken;
-    }
-    pair(index, kind, left, right)
-}
-
-// The entry at an index of a table.
+// The entry at an index of a table; past its end the word 0 is read, as the definition says.
 pub fn entry_at(table: &[u32], entry: usize) -> Entry
     ensures { result ≡ entry_at table.now entry }
 {
-    if entry < table.len() {
-        return entry_of(entry, table[entry]);
-    }
-    entry_of(entry, 0)
+    entry_of(entry, table.get(entry).copied().unwrap_or(0))
 }
 
-fn keeps(index: usize, word: u32) -> bool
-    ensures { result ≡ is_kept (entry_of index word) }
-{
-    match entry_of(index, word) {
-        Entry::Atom(_) => true,
-        Entry::One(_, _) => true,
-        Entry::Two(_, _, _) => true,
-        Entry::Broken => false,
-    }
-}
-
-// Whether every entry of a list keeps the kind table.
+// Whether every entry of a list keeps the kind table, that is, whether none is broken.
 pub fn all_keep(table: &[u32]) -> bool
     ensures { result ≡ keeps_all table.now }
 {
-    let mut entry = 0;
-    while entry < table.len() {
-        if !keeps(entry, table[entry]) {
-            return false;
-        }
-        entry += 1;
-    }
-    true
+    table.iter().enumerate().all(|(entry, word)| !matches!(entry_of(entry, *word), Entry::Broken))
 }
 
-// A list of words read into the record. Whoever reads has tested that they have a place in it.
-pub fn table_of(table: &[u32]) -> Table
-    requires { length table.now ≤ max_entries }
-    ensures { result ≡ table_of table.now }
-{
-    let mut words = [0u32; Schedule::MAX_ENTRIES];
-    let mut entry = 0;
-    while entry < table.len() {
-        words[entry] = table[entry];
-        entry += 1;
+impl Table {
+    ghost use Rattle.rules.specs.inside.Records.{table_of};
+
+    // A list of words read into the record. Whoever reads has tested that they have a place in it. (Each
+    // reader has the record in its own frame: a function that read it for all could not hand the words back.)
+    pub fn new(list: &[u32]) -> Table
+        requires { length list.now ≤ max_entries }
+        ensures made { (few : length list.now ≤ max_entries) × (result ≡ table_of list.now few) }
+        ensures read { take result.len result.words ≡ list.now }
+    {
+        let mut words = [0; Schedule::MAX_ENTRIES];
+        words[..list.len()].copy_from_slice(list);
+        Table {
+            words,
+            len: list.len(),
+        }
     }
-    Table {
-        words,
-        len: table.len(),
+
+    // The words that were read.
+    pub fn entries(&self) -> &[u32]
+        ensures { result.now ≡ take self.now.len self.now.words }
+    {
+        &self.words[..self.len]
     }
 }

@@ -44,6 +44,13 @@ unfolding listed_of members_of
 list-cost member true n sum next s e = s
 list-cost member false n sum next s e = omega (arith, sum-grown member n, s, e)
 
+-- a scan whose positions lie in a row is no longer than the row
+row-ends : (ahead : Bool) (i far : ℕ) {n : ℕ} → n ≤ far → (ahead ≡ false → far ≤ i)
+    → ((k : ℕ) → k ≤ far → step_from ahead i k < row_length) → n < row_length
+unfolding step_from
+row-ends true i far le back column = omega (arith, le, column far (omega arith))
+row-ends false i far le back column = omega (arith, le, back refl, column 0 (omega arith))
+
 module _ {witness member : ℕ → ℕ} {held ahead : Bool} {i price : ℕ} where
   pub scan-none : Reached witness member held ahead i price → Scanning witness member held ahead i price 0 1
   scan-none r = record {
@@ -63,6 +70,10 @@ module _ {witness member : ℕ → ℕ} {held ahead : Bool} {i price : ℕ} wher
 
     pub scan-column : {place : ℕ} → place ≡ step_from ahead i n → place < row_length
     scan-column at = omega (arith, at, s.reached.column n s.within)
+
+    -- the scan has not passed the row's end
+    pub scan-ends : n < row_length
+    scan-ends = row-ends ahead i s.reached.far s.within s.reached.back s.reached.column
 
     pub scan-small : {next : ℕ} → next ≤ 65535 → sum + next ≤ 67107841
     scan-small le = omega (arith, s.bound, scan-near)

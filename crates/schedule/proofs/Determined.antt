@@ -9,8 +9,10 @@ use lib.ListN.{length}
 use denote.Ref.{Bor}
 use Rattle.schedule.specs.Lengths.{Makes}
 use Rattle.schedule.specs.Letters.{Rest, View, letter_at}
-use Rattle.schedule.specs.declared.Made.{Made}
-use Rattle.schedule.specs.declared.Made.TheVariants.{EmptyLoop, TooLong, Ready}
+use Rattle.std.specs.Prelude.{Result, Ok, Err}
+use Rattle.schedule.specs.declared.Schedule.{Schedule}
+use Rattle.schedule.specs.declared.LengthError.{LengthError}
+use Rattle.schedule.specs.declared.LengthError.TheVariants.{EmptyLoop, TooLong}
 use Rattle.schedule.proofs.Tests.{fails-one, fails-or-passes}
 
 -- Where a contract is an equation.
@@ -18,16 +20,16 @@ pub equal-one {ℓ} : {A : Type ℓ} {x a b : A} → a ≡ x → b ≡ x → a �
 equal-one p q = p ∙ sym q
 
 -- Two cases of the constructor for the same lengths: refused by the same test, or none.
-pub new-one : (u v : ℕ) (m n : Made) → Makes u v m → Makes u v n → m ≡ n
-new-one u v EmptyLoop EmptyLoop p q = refl
-new-one u v EmptyLoop TooLong p q = absurd (omega (arith, ap (λ f. f.number) (fails-one p q)))
-new-one u v EmptyLoop (Ready s) p q = absurd (fails-or-passes p q.0)
-new-one u v TooLong EmptyLoop p q = absurd (omega (arith, ap (λ f. f.number) (fails-one p q)))
-new-one u v TooLong TooLong p q = refl
-new-one u v TooLong (Ready s) p q = absurd (fails-or-passes p q.0)
-new-one u v (Ready s) EmptyLoop p q = absurd (fails-or-passes q p.0)
-new-one u v (Ready s) TooLong p q = absurd (fails-or-passes q p.0)
-new-one u v (Ready s) (Ready t) p q = ap Ready (p.1 ∙ sym q.1)
+pub new-one : (u v : ℕ) (m n : Result Schedule LengthError) → Makes u v m → Makes u v n → m ≡ n
+new-one u v (Err EmptyLoop) (Err EmptyLoop) p q = refl
+new-one u v (Err EmptyLoop) (Err TooLong) p q = absurd (omega (arith, ap (λ f. f.number) (fails-one p q)))
+new-one u v (Err EmptyLoop) (Ok s) p q = absurd (fails-or-passes p q.0)
+new-one u v (Err TooLong) (Err EmptyLoop) p q = absurd (omega (arith, ap (λ f. f.number) (fails-one p q)))
+new-one u v (Err TooLong) (Err TooLong) p q = refl
+new-one u v (Err TooLong) (Ok s) p q = absurd (fails-or-passes p q.0)
+new-one u v (Ok s) (Err EmptyLoop) p q = absurd (fails-or-passes q p.0)
+new-one u v (Ok s) (Err TooLong) p q = absurd (fails-or-passes q p.0)
+new-one u v (Ok s) (Ok t) p q = ap Ok (p.1 ∙ sym q.1)
 
 -- One part of the caller's memory, with one list of letters. (A reference's
 -- ghost name is no part of a result.)

@@ -7,7 +7,7 @@ use Rattle.schedule.specs.Limits.{max_letters}
 use Rattle.schedule.specs.Figures.{refusal}
 use Rattle.schedule.specs.Tests.{AllPass, none, also, FirstFails, here, later}
 use Rattle.schedule.specs.Lengths.{length_tests, Makes}
-use Rattle.schedule.specs.declared.Made.TheVariants.{Ready}
+use Rattle.std.specs.Prelude.{Ok}
 
 module _ (u v : ℕ) where
   pub refusal-1 : v ≡ 0 → FirstFails (length_tests u v) (refusal 1)
@@ -19,7 +19,7 @@ module _ (u v : ℕ) where
   pub refusal-0 : (v ≡ 0 → ⊥) → u + v ≤ max_letters → AllPass (length_tests u v)
   refusal-0 ne le = also (lt-ltb 0 v (omega (arith, ne))) (also (le-leb (u + v) max_letters le) none)
 
-  pub makes-ready : (v ≡ 0 → ⊥) → u + v ≤ max_letters → Makes u v (Ready (record { prefix = u; looped = v }))
+  pub makes-ready : (v ≡ 0 → ⊥) → u + v ≤ max_letters → Makes u v (Ok (record { prefix = u; looped = v }))
   makes-ready ne le = (refusal-0 ne le, refl)
 
 -- what the constructor's cases rest on

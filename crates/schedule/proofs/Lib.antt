@@ -1,6 +1,6 @@
 pub mod Tests
 pub mod Lengths
-pub mod Letters
+pub mod Views
 pub mod Determined
 pub mod Buffers
 pub mod Bits

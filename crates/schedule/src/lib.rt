@@ -1,5 +1,5 @@
-// Schedules: the lengths of prefix and loop with the limits of the job,
-// the letter view, and the letter at a position.
+// Schedules: the lengths of prefix and loop with the limits of the job, the two lists of letters, their
+// view, and the letter at a position.
 #![tactic(auto)]
 
 ghost use Rattle.std.specs.Prelude.{◌≡◌, ◌/◌, ◌%◌, ◌^◌};
@@ -13,19 +13,18 @@ pub const MAX_WORDS: usize = 4095;
 
 pub const WORK_LENGTH: usize = 16384;
 
-// The lengths of a schedule: letters in the prefix, letters in the loop.
+// The lengths of a schedule: letters in the prefix, letters in the loop. (The lists themselves stay lent.)
 #[derive(Clone, Copy)]
 pub struct Schedule {
     pub prefix: usize,
     pub looped: usize,
 }
 
-// What the constructor answers: the refusal that the lengths earn first, or the schedule.
-#[derive(Clone, Copy)]
-pub enum Made {
+// Why two lengths make no schedule.
+#[derive(Clone, Copy, Debug, PartialEq, Eq)]
+pub enum LengthError {
     EmptyLoop,
     TooLong,
-    Ready(Schedule),
 }
 
 impl Schedule {
@@ -37,49 +36,56 @@ impl Schedule {
 
     // The schedule of two lengths, or the first refusal that they earn.
     #[tactic(auto, using(crate::proofs::Lengths::made))]
-    pub fn new(prefix: usize, looped: usize) -> Made
+    pub fn new(prefix: usize, looped: usize) -> Result<Schedule, LengthError>
         ensures { Makes prefix looped result }
     {
         if looped == 0 {
-            return Made::EmptyLoop;
+            return Err(LengthError::EmptyLoop);
         }
         if Schedule::MAX_LETTERS < prefix {
-            return Made::TooLong;
+            return Err(LengthError::TooLong);
         }
         if Schedule::MAX_LETTERS - prefix < looped {
-            return Made::TooLong; // a difference, since the sum could wrap
+            return Err(LengthError::TooLong); // a difference, since the sum could wrap
         }
-        Made::Ready(Schedule { prefix, looped })
+        Ok(Schedule { prefix, looped })
     }
 }
 
-// The rest of the prefix from a position on, or the rest of the loop from the letter in
-// force: a part of the caller's list.
-pub fn view<'a>(prefix: &'a [u32], looped: &'a [u32], position: usize) -> &'a [u32]
-    ensures { View prefix.entry looped.entry position result }
-{
-    if position < prefix.len() {
-        return &prefix[position..];
-    }
-    if looped.len() == 0 {
-        return &looped[..];
-    }
-    let from = (position - prefix.len()) % looped.len();
-    &looped[from..]
+// The letters of a schedule, as they are lent: those of the prefix and those of the loop.
+#[derive(Clone, Copy)]
+pub struct LentLetters<'a> {
+    pub prefix: &'a [u32],
+    pub looped: &'a [u32],
 }
 
-// The letter at a position: the first of the view.
-pub fn letter<'a>(prefix: &'a [u32], looped: &'a [u32], position: usize) -> u32
-    ensures { result ≡ letter_at prefix.now looped.now position }
-{
-    let part = view(prefix, looped, position);
-    if part.len() == 0 {
-        return 0;
+impl<'a> LentLetters<'a> {
+    // The rest of the prefix from a position on, or the rest of the loop from the letter in
+    // force: a part of the caller's list. (Tested, since `get` answers an empty rest at the prefix's end
+    // too.)
+    pub fn view(self, position: usize) -> &'a [u32]
+        ensures { View self.entry.prefix self.entry.looped position result }
+    {
+        if position < self.prefix.len() {
+            return &self.prefix[position..];
+        }
+        if self.looped.is_empty() {
+            return self.looped;
+        }
+        let from = (position - self.prefix.len()) % self.looped.len();
+        &self.looped[from..]
     }
-    part[0]
+
+    // The letter at a position: the first of the view, 0 where an empty loop shows none.
+    pub fn letter(self, position: usize) -> u32
+        ensures { result ≡ letter_at self.entry.prefix.now self.entry.looped.now position }
+    {
+        self.view(position).first().copied().unwrap_or(0)
+    }
 }
 
-// Bit of an atom in a letter: 1 if the atom holds in it, else 0. A letter has no atom past 31.
+// Bit of an atom in a letter: 1 if the atom holds in it, else 0; a number, as the contract has it. A letter
+// has no atom past 31.
 #[tactic(auto, using(crate::proofs::Bits::no_bit))]
 pub fn bit(letter: u32, atom: usize) -> u32
     ensures { result ≡ letter / 2 ^ atom % 2 }

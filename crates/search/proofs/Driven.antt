@@ -25,8 +25,8 @@ use Rattle.trees.specs.Frames.{schedule_frame}
 use Rattle.theory.specs.inside.Cols.{cols}
 use Rattle.theory.proofs.Words.{schedule-repeats}
 use Rattle.theory.proofs.Windowed.{Windowed, repeats-windowed}
-use Rattle.cells.specs.inside.Cells.{atom_cell, plain_cell, since_cell, until_cell}
-use Rattle.cells.specs.declared.Connective.TheVariants as Plain
+use Rattle.cells.specs.inside.Cells.{atom_cell, not_state, or_state, and_state, plain_cell}
+use Rattle.cells.specs.inside.Cells.{since_cell, until_cell}
 use Rattle.rows.specs.inside.Rows.{row_of, RowReady, Filled, row_length}
 use Rattle.search.specs.inside.Filling.{FilledBelow, Limited, Fills}
 use Rattle.search.proofs.Filling.{atom-filled, broken-filled, not-filled, or-filled, and-filled}
@@ -100,7 +100,7 @@ module _ {prefix loop table : List ℕ} {e len reach h : ℕ} (m : Measured pref
 
     pub not-driven : (l : ℕ) → entry_at table e ≡ One Not l
         → Filled e (reach + length loop * (5 - h))
-        (plain_cell Plain.Not (row_of found l) (row_of found l)) found left
+        (plain_cell (λ a b. not_state a) (row_of found l) (row_of found l)) found left
         → Fills ones (schedule_frame prefix loop) table reach (length loop) (suc e) found left
     not-driven l at f =
         let p = parts-of (One Not l) at in
@@ -110,7 +110,7 @@ module _ {prefix loop table : List ℕ} {e len reach h : ℕ} (m : Measured pref
     module _ (l r : ℕ) where
       pub or-driven : entry_at table e ≡ Two Or l r
           → Filled e (reach + length loop * (5 - h))
-          (plain_cell Plain.Or (row_of found l) (row_of found r)) found left
+          (plain_cell or_state (row_of found l) (row_of found r)) found left
           → Fills ones (schedule_frame prefix loop) table reach (length loop) (suc e) found left
       or-driven at f =
           let p = parts-of (Two Or l r) at in
@@ -120,7 +120,7 @@ module _ {prefix loop table : List ℕ} {e len reach h : ℕ} (m : Measured pref
 
       pub and-driven : entry_at table e ≡ Two And l r
           → Filled e (reach + length loop * (5 - h))
-          (plain_cell Plain.And (row_of found l) (row_of found r)) found left
+          (plain_cell and_state (row_of found l) (row_of found r)) found left
           → Fills ones (schedule_frame prefix loop) table reach (length loop) (suc e) found left
       and-driven at f =
           let p = parts-of (Two And l r) at in
@@ -182,7 +182,7 @@ module _ {prefix loop table : List ℕ} {e len reach h : ℕ} (m : Measured pref
           omega (arith, mul-le-mul_left (length loop) q, m.limits.from),
         )
 
--- The loop over the rows: none, a turn, done.
+-- The loop over the rows: none, a turn.
 pub fills-none : (cost : Cost) (frame : Frame) (table : List ℕ) (reach v : ℕ) (work : List ℕ)
     → Fills cost frame table reach v 0 work work
 fills-none cost frame table reach v work = record {
@@ -201,12 +201,6 @@ fills-turn {cost} {frame} {table} {reach} {v} {e} {found} {left = left} a b =
       same_length = b.same_length ∙ a.same_length;
       beyond = λ k past. b.beyond k past ∙ a.beyond k past;
     })
-
-pub fills-done : {cost : Cost} {frame : Frame} {table : List ℕ} {reach v e k : ℕ} {found left : List ℕ}
-    → k ≤ e + 1 → e < k → Fills cost frame table reach v k found left
-    → Fills cost frame table reach v (suc e) found left
-fills-done {cost} {frame} {table} {reach} {v} {e} {k} {found} {left} le lt a =
-    subst (λ n. Fills cost frame table reach v n found left) {x = k} {y = suc e} (omega arith) a
 
 -- the limits of an earlier row
 pub limited-earlier : {u v reach : ℕ} {table : List ℕ} {e k len more : ℕ} → k ≤ e → more ≡ len

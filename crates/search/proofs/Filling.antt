@@ -20,8 +20,8 @@ use Rattle.trees.specs.Least.{Cost}
 use Rattle.theory.specs.inside.Level.{ByAtoms}
 use Rattle.theory.specs.inside.Cols.{cols}
 use Rattle.theory.proofs.Windowed.{Windowed}
-use Rattle.cells.specs.inside.Cells.{atom_cell, plain_state, plain_cell, since_cell, closed, until_cell}
-use Rattle.cells.specs.declared.Connective.TheVariants as Plain
+use Rattle.cells.specs.inside.Cells.{atom_cell, not_state, or_state, and_state, plain_cell}
+use Rattle.cells.specs.inside.Cells.{since_cell, closed, until_cell}
 use Rattle.rows.specs.inside.Rows.{row_of, Filled, row_length}
 use Rattle.cells.specs.inside.Meant.{CellFor}
 use Rattle.search.specs.inside.Filling.{FilledBelow}
@@ -124,18 +124,18 @@ module _ {cost : Cost} {weight : ℕ → ℕ} (by-atoms : ByAtoms cost weight) {
 
   pub not-filled : (l : ℕ) → entry_at table e ≡ One Not l → l < e
       → Filled e (cols reach v (formula_of table e))
-      (plain_cell Plain.Not (row_of found l) (row_of found l)) found left
+      (plain_cell (λ a b. not_state a) (row_of found l) (row_of found l)) found left
       → FilledBelow cost frame table reach v (suc e) left
-  unfolding plain_cell plain_state
+  unfolding plain_cell
   not-filled l at lt f = entry_row (One Not l) _ at f (λ p near.
       not-cell by-atoms w.lawful (part-for below l lt (formula_of table l) (omega arith) p near))
 
   module _ (l r : ℕ) (ll : l < e) (lr : r < e) where
     pub or-filled : entry_at table e ≡ Two Or l r
         → Filled e (cols reach v (formula_of table e))
-        (plain_cell Plain.Or (row_of found l) (row_of found r)) found left
+        (plain_cell or_state (row_of found l) (row_of found r)) found left
         → FilledBelow cost frame table reach v (suc e) left
-    unfolding plain_cell plain_state
+    unfolding plain_cell
     or-filled at f =
         let g = orᶠ (formula_of table l) (formula_of table r) in
         entry_row (Two Or l r) _ at f
@@ -144,9 +144,9 @@ module _ {cost : Cost} {weight : ℕ → ℕ} (by-atoms : ByAtoms cost weight) {
 
     pub and-filled : entry_at table e ≡ Two And l r
         → Filled e (cols reach v (formula_of table e))
-        (plain_cell Plain.And (row_of found l) (row_of found r)) found left
+        (plain_cell and_state (row_of found l) (row_of found r)) found left
         → FilledBelow cost frame table reach v (suc e) left
-    unfolding plain_cell plain_state
+    unfolding plain_cell
     and-filled at f =
         let g = andᶠ (formula_of table l) (formula_of table r) in
         entry_row (Two And l r) _ at f

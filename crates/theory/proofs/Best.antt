@@ -6,7 +6,7 @@ use mathlib.Core.Logic.{⊎_elim, by_cases}
 use mathlib.Core.List.{List, [], ◌∷◌, ◌++◌}
 use native.Mathlib.Decide.{dec_lt}
 use native.Mathlib.Omega.{arith}
-use Rattle.trees.specs.Nodes.{Node}
+use Rattle.trees.specs.declared.Node.{Node}
 use Rattle.trees.specs.Rules.{Frame, Claim, Rule}
 use Rattle.trees.specs.Trees.{Tree, grown, Forest, more}
 use Rattle.trees.specs.Least.{Cost, AtOrBefore}

@@ -8,7 +8,7 @@ use native.Mathlib.Omega.{arith}
 use Rattle.schedule.specs.Limits.{max_height}
 use Rattle.rules.specs.Formula.{Formula, height}
 use Rattle.rules.specs.declared.Side.TheVariants.{Past, Future}
-use Rattle.trees.specs.Nodes.{Node}
+use Rattle.trees.specs.declared.Node.{Node}
 use Rattle.trees.specs.Rules.{Frame, Claim, claim, Rule}
 use Rattle.trees.specs.declared.Verdict.{Verdict}
 use Rattle.trees.specs.declared.Verdict.TheVariants.{Holds, Violated}

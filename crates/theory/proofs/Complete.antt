@@ -10,7 +10,7 @@ use Rattle.schedule.specs.Letters.{letter_at}
 use Rattle.rules.specs.Formula.{Formula, atom, notᶠ, orᶠ, andᶠ, since, until, height}
 use Rattle.rules.specs.Meaning.{Meant, SinceMeant, UntilMeant}
 use Rattle.rules.specs.declared.Side.TheVariants.{Past}
-use Rattle.trees.specs.Nodes.{Node}
+use Rattle.trees.specs.declared.Node.{Node}
 use Rattle.trees.specs.Rules.{Frame, Claim, claim, Rule, rule1, rule2, rule3, rule4, rule5, rule6, rule7}
 use Rattle.trees.specs.Rules.{rule8, rule9, rule10, rule11, rule12, rule13, rule14, rule15, rule16}
 use Rattle.trees.specs.Trees.{Tree, grown, Forest, none, more}

@@ -4,7 +4,7 @@ use mathlib.Core.Path.{◌≡◌, refl, sym, ◌∙◌, ap, subst}
 use mathlib.Core.List.{List, [], ◌∷◌, ◌++◌, append_assoc}
 use native.Mathlib.Omega.{arith}
 use Rattle.rules.specs.Formula.{Formula}
-use Rattle.trees.specs.Nodes.{Node}
+use Rattle.trees.specs.declared.Node.{Node}
 use Rattle.trees.specs.Rules.{Frame, Claim, claim, run, Rule}
 use Rattle.trees.specs.Trees.{grown, Forest, none}
 use Rattle.trees.specs.Least.{Cost, cost_of}

@@ -7,7 +7,8 @@ use mathlib.Core.List.{List, [], ◌∷◌}
 use native.Mathlib.Omega.{arith}
 use Rattle.rules.specs.Formula.{Formula, atom, notᶠ, orᶠ, andᶠ}
 use Rattle.rules.specs.Meaning.{HasAtom}
-use Rattle.trees.specs.Nodes.{Node, node}
+use Rattle.trees.specs.Nodes.{node}
+use Rattle.trees.specs.declared.Node.{Node}
 use Rattle.trees.specs.Rules.{Frame, Claim, claim, Rule, rule1, rule2, rule3, rule4, rule5, rule6, rule7}
 use Rattle.trees.specs.Rules.{rule8, rule9, rule10}
 use Rattle.trees.specs.Trees.{Tree, grown}

@@ -5,7 +5,8 @@ use mathlib.Core.Logic.{◌⊎◌, inl, inr}
 use mathlib.Core.List.{List, [], ◌∷◌}
 use native.Mathlib.Omega.{arith}
 use Rattle.rules.specs.Formula.{Formula, since}
-use Rattle.trees.specs.Nodes.{Node, node}
+use Rattle.trees.specs.Nodes.{node}
+use Rattle.trees.specs.declared.Node.{Node}
 use Rattle.trees.specs.Rules.{Frame, claim, run, rule11, rule12, rule13}
 use Rattle.trees.specs.Trees.{Tree, grown}
 use Rattle.trees.specs.Least.{Cost, cost_of}

@@ -8,7 +8,7 @@ use native.Mathlib.Nat.{zero-add, suc-add, add-zero, add-suc}
 use native.Mathlib.Omega.{arith}
 use Rattle.rules.specs.Formula.{Formula, until, height}
 use Rattle.rules.specs.declared.Side.TheVariants.{Past}
-use Rattle.trees.specs.Nodes.{Node}
+use Rattle.trees.specs.declared.Node.{Node}
 use Rattle.trees.specs.Rules.{Frame, Claim, claim, run, rule14, rule15, rule16}
 use Rattle.trees.specs.Trees.{Tree, grown}
 use Rattle.trees.specs.Frames.{window_count}

@@ -9,7 +9,8 @@ use native.Mathlib.Omega.{arith}
 use Rattle.schedule.specs.Letters.{letter_at}
 use Rattle.rules.specs.Formula.{Formula, atom, notᶠ, andᶠ, since, until}
 use Rattle.rules.specs.Meaning.{HasAtom, Meant}
-use Rattle.trees.specs.Nodes.{Node, node}
+use Rattle.trees.specs.Nodes.{node}
+use Rattle.trees.specs.declared.Node.{Node}
 use Rattle.trees.specs.Rules.{Frame, Claim, claim, rule1, rule2, rule3, rule4, rule8, rule11, rule15, rule16}
 use Rattle.trees.specs.Trees.{Tree, grown, none, more}
 use Rattle.trees.specs.Frames.{schedule_frame}

@@ -8,7 +8,8 @@ use native.Mathlib.Decide.{dec_le, dec_lt}
 use native.Mathlib.Omega.{arith}
 use Rattle.rules.specs.Formula.{Formula, until, height}
 use Rattle.rules.specs.declared.Side.TheVariants.{Past}
-use Rattle.trees.specs.Nodes.{Node, node}
+use Rattle.trees.specs.Nodes.{node}
+use Rattle.trees.specs.declared.Node.{Node}
 use Rattle.trees.specs.Rules.{Frame, Claim, claim, run, Rule, rule14, rule15, rule16}
 use Rattle.trees.specs.Trees.{Tree, grown, Forest, more}
 use Rattle.trees.specs.Frames.{window_count}

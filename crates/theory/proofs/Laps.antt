@@ -9,7 +9,7 @@ use native.Mathlib.Omega.{arith}
 use Rattle.rules.specs.Formula.{Formula, atom, notᶠ, orᶠ, andᶠ, since, until, height}
 use Rattle.rules.specs.Meaning.{HasAtom}
 use Rattle.rules.specs.declared.Side.TheVariants.{Past}
-use Rattle.trees.specs.Nodes.{Node}
+use Rattle.trees.specs.declared.Node.{Node}
 use Rattle.trees.specs.Rules.{Frame, claim, run, rule1, rule2, rule3, rule4, rule5, rule6, rule7, rule8}
 use Rattle.trees.specs.Rules.{rule9, rule10, rule11, rule12, rule13, rule14, rule15, rule16}
 use Rattle.trees.specs.Trees.{Tree, grown, Forest, none, more}

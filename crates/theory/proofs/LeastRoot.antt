@@ -4,7 +4,7 @@ use mathlib.Core.Path.{ap₂}
 use mathlib.Core.List.{List, ◌∷◌, head-eq_of_cons-eq}
 use native.Mathlib.Omega.{arith}
 use Rattle.rules.specs.Formula.{Formula}
-use Rattle.trees.specs.Nodes.{Node}
+use Rattle.trees.specs.declared.Node.{Node}
 use Rattle.trees.specs.Rules.{Frame, Claim, claim, Rule}
 use Rattle.trees.specs.Trees.{Tree, grown}
 use Rattle.trees.specs.Least.{Cost, cost_of, NodeBefore, here, later, AtOrBefore, cheaper, earlier, same}

@@ -7,7 +7,7 @@ use native.Mathlib.Omega.{arith}
 use Rattle.schedule.specs.Limits.{max_letters, max_height}
 use Rattle.rules.specs.Formula.{Formula, height}
 use Rattle.rules.specs.declared.Side.TheVariants.{Past, Future}
-use Rattle.trees.specs.Nodes.{Node}
+use Rattle.trees.specs.declared.Node.{Node}
 use Rattle.trees.specs.Rules.{Frame, Claim, claim}
 use Rattle.trees.specs.Least.{Cost, Least}
 use Rattle.trees.proofs.Shapes.{ahead, cut, through, Shape, behind, looks, shape_of}

@@ -5,7 +5,7 @@ use mathlib.Core.Path.{◌≡◌, sym, ◌∙◌}
 use mathlib.Core.List.{List, [], ◌++◌, append-nil, append_cancel_left}
 use lib.ListN.{length}
 use Rattle.rules.specs.Formula.{Formula}
-use Rattle.trees.specs.Nodes.{Node}
+use Rattle.trees.specs.declared.Node.{Node}
 use Rattle.trees.specs.Rules.{Frame, claim}
 use Rattle.trees.specs.Trees.{Tree}
 use Rattle.trees.specs.Frames.{schedule_frame}

@@ -6,7 +6,7 @@ use mathlib.Core.List.{List, ◌∷◌, head-eq_of_cons-eq}
 use native.Mathlib.Omega.{arith}
 use Rattle.schedule.specs.Limits.{max_height}
 use Rattle.rules.specs.Formula.{Formula}
-use Rattle.trees.specs.Nodes.{Node}
+use Rattle.trees.specs.declared.Node.{Node}
 use Rattle.trees.specs.Rules.{Frame, Claim, claim, Rule}
 use Rattle.trees.specs.Trees.{Tree}
 use Rattle.trees.specs.Frames.{window_count}

@@ -6,7 +6,7 @@ use native.Mathlib.Nat.{add-mod_right}
 use native.Mathlib.Omega.{arith}
 use lib.ListN.{length, get_or}
 use Rattle.schedule.specs.Letters.{letter_at}
-use Rattle.schedule.proofs.Letters.{letter-looping}
+use Rattle.schedule.proofs.Views.{letter-looping}
 use Rattle.theory.specs.inside.Words.{Repeats}
 
 -- a lap later the same letter of the loop is in force

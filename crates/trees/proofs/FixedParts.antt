@@ -5,7 +5,7 @@ use mathlib.Core.Path.{◌≡◌, refl}
 use mathlib.Core.List.{List}
 use native.Mathlib.Omega.{arith}
 use lib.ListN.{length}
-use Rattle.trees.specs.Nodes.{Node}
+use Rattle.trees.specs.declared.Node.{Node}
 use Rattle.trees.specs.Rules.{Frame, Claim, Rule, rule1, rule2, rule3, rule4, rule5, rule6, rule7}
 use Rattle.trees.specs.Rules.{rule8, rule9, rule10, rule11, rule12, rule13, rule14, rule15, rule16}
 use Rattle.trees.specs.inside.Table.{rule_fixed}

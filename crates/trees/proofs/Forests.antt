@@ -8,7 +8,7 @@ use native.Mathlib.Numerals.{add-one}
 use native.Mathlib.Omega.{arith}
 use lib.ListN.{length}
 use Rattle.rules.specs.Formula.{Formula}
-use Rattle.trees.specs.Nodes.{Node}
+use Rattle.trees.specs.declared.Node.{Node}
 use Rattle.trees.specs.Rules.{Frame, Claim, claim, run}
 use Rattle.trees.specs.Trees.{Tree, grown, Forest, none, more}
 use Rattle.trees.specs.declared.Verdict.{Verdict}

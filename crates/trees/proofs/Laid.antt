@@ -1,7 +1,7 @@
 -- A forest read word by word, as a walk meets it: each node adds its needs in front of the claims that are
 -- left, and at the end none is left.
 use mathlib.Core.List.{List, [], ◌∷◌, ◌++◌, append-nil, append_assoc}
-use Rattle.trees.specs.Nodes.{Node}
+use Rattle.trees.specs.declared.Node.{Node}
 use Rattle.trees.specs.Rules.{Frame, Claim, Rule}
 use Rattle.trees.specs.Trees.{grown, Forest, none, more}
 use Rattle.trees.proofs.Forests.{forest-parts}

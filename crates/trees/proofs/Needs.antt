@@ -9,7 +9,7 @@ use lib.Dec.{eqb}
 use Rattle.rules.specs.Formula.{Formula, atom, notᶠ, orᶠ, andᶠ, since, until, height}
 use Rattle.rules.specs.Meaning.{HasAtom}
 use Rattle.rules.specs.declared.Side.TheVariants.{Past}
-use Rattle.trees.specs.Nodes.{Node}
+use Rattle.trees.specs.declared.Node.{Node}
 use Rattle.trees.specs.Rules.{Frame, Claim, claim, run, Rule, rule1, rule2, rule3, rule4, rule5, rule6}
 use Rattle.trees.specs.Rules.{rule7, rule8, rule9, rule10, rule11, rule12, rule13, rule14, rule15}
 use Rattle.trees.specs.Rules.{rule16}

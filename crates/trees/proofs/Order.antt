@@ -8,7 +8,7 @@ use native.Mathlib.Decide.{dec_lt}
 use native.Mathlib.Omega.{arith}
 use lib.ListN.{length}
 use Rattle.rules.specs.Formula.{Formula}
-use Rattle.trees.specs.Nodes.{Node}
+use Rattle.trees.specs.declared.Node.{Node}
 use Rattle.trees.specs.Rules.{Frame, claim}
 use Rattle.trees.specs.Trees.{Tree}
 use Rattle.trees.specs.Least.{Cost, cost_of, ones, Least, NodeBefore, by_rule, by_atom, by_number, Before}

@@ -6,7 +6,7 @@ use mathlib.Core.List.{List, ◌∷◌, ◌++◌, append_assoc}
 use native.Mathlib.Nat.{zero-add, suc-add}
 use native.Mathlib.Omega.{arith}
 use lib.ListN.{length}
-use Rattle.trees.specs.Nodes.{Node}
+use Rattle.trees.specs.declared.Node.{Node}
 use Rattle.trees.specs.Rules.{Frame, Claim}
 use Rattle.trees.specs.Trees.{Tree, grown, Forest}
 use Rattle.trees.specs.Place.{Breaks, wrong, missing, leftover, later}

@@ -1,5 +1,5 @@
 -- The verdict that a rule proves.
-use mathlib.Core.Path.{◌≡◌, refl, sym, ap, ◌∙◌}
+use mathlib.Core.Path.{◌≡◌, sym, ap}
 use mathlib.Core.Bool.{cond}
 use mathlib.Core.List.{List, ◌∷◌}
 use Prim.Native.Nat.{ℕ, ◌-◌, ◌<◌}
@@ -9,7 +9,7 @@ use lib.Dec.{eqb}
 use lib.ListN.{get_or-eq_default}
 use Rattle.trees.specs.Verdicts.{signs, rule_sign, sign_of, proven_by}
 use Rattle.trees.specs.declared.Verdict.TheVariants.{Holds, Violated}
-use Rattle.trees.specs.Nodes.{Node}
+use Rattle.trees.specs.declared.Node.{Node}
 use Rattle.trees.specs.Rules.{Frame, Claim}
 use Rattle.trees.specs.Trees.{Tree, grown}
 use Rattle.trees.proofs.Needs.{rule-sign}
@@ -25,21 +25,13 @@ module _ (r : ℕ) where
   proven-past lt =
       ap (λ k. cond (eqb k 1) Holds Violated) (sym (get_or-eq_default signs 0 {n = r - 1} (omega arith)))
 
-  pub proven-holds : (n : ℕ) → n ≡ rule_sign r → n ≡ 1 → Holds ≡ proven_by r
-  unfolding proven_by
-  proven-holds n p e = ap (λ k. cond (eqb k 1) Holds Violated) (sym e ∙ p)
-
-  pub proven-violated : (n : ℕ) → n ≡ rule_sign r → (n ≡ 1 → ⊥) → Violated ≡ proven_by r
-  unfolding proven_by
-  proven-violated n p m =
-      ap (λ t. cond t Holds Violated) (sym (ne_eqb n 1 m)) ∙ ap (λ k. cond (eqb k 1) Holds Violated) p
-
-  -- the same by the rule's sign alone
   pub sign-holds : rule_sign r ≡ 1 → Holds ≡ proven_by r
-  sign-holds e = proven-holds (rule_sign r) refl e
+  unfolding proven_by
+  sign-holds e = ap (λ k. cond (eqb k 1) Holds Violated) (sym e)
 
   pub sign-violated : (rule_sign r ≡ 1 → ⊥) → Violated ≡ proven_by r
-  sign-violated m = proven-violated (rule_sign r) refl m
+  unfolding proven_by
+  sign-violated m = ap (λ t. cond t Holds Violated) (sym (ne_eqb (rule_sign r) 1 m))
 
 -- what the cases of `proven` rest on
 pub ruleset proven = (proven-none, proven-past, sign-holds, sign-violated)

@@ -1,10 +1,6 @@
 -- A node of a tree, and the word that it is written as: rule × 16,777,216 + atom × 65,536 + number.
 use Rattle.std.specs.Prelude.{ℕ, ◌/◌, ◌%◌}
-
-pub record Node : Type 0 where
-  pub rule : ℕ
-  pub atom : ℕ
-  pub number : ℕ
+use Rattle.trees.specs.declared.Node.{Node}
 
 abbrev pub node : ℕ → ℕ → ℕ → Node
 node r a n = record { rule = r; atom = a; number = n }

@@ -1,6 +1,6 @@
 -- Where words break off from being trees for a list of claims, in tree order.
 use Rattle.std.specs.Prelude.{ℕ, suc, List, [], ◌∷◌, ◌++◌}
-use Rattle.trees.specs.Nodes.{Node}
+use Rattle.trees.specs.declared.Node.{Node}
 use Rattle.trees.specs.Rules.{Frame, Claim, Rule}
 
 -- No rule of the table makes the node prove the claim.

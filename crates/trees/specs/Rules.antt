@@ -4,7 +4,8 @@ use Rattle.std.specs.Prelude.{ℕ, zero, suc, ◌+◌, ◌-◌, ◌≤◌, ◌�
 use Rattle.rules.specs.Formula.{Formula, atom, notᶠ, orᶠ, andᶠ, since, until, height}
 use Rattle.rules.specs.Meaning.{HasAtom}
 use Rattle.rules.specs.declared.Side.TheVariants.{Past}
-use Rattle.trees.specs.Nodes.{Node, node}
+use Rattle.trees.specs.Nodes.{node}
+use Rattle.trees.specs.declared.Node.{Node}
 use Rattle.trees.specs.declared.Verdict.{Verdict}
 use Rattle.trees.specs.declared.Verdict.TheVariants.{Holds, Violated}
 

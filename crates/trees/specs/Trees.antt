@@ -1,6 +1,6 @@
 -- Valid trees: a node whose rule proves the claim, and then the trees of its parts, in order.
 use Rattle.std.specs.Prelude.{List, [], ◌∷◌, ◌++◌}
-use Rattle.trees.specs.Nodes.{Node}
+use Rattle.trees.specs.declared.Node.{Node}
 use Rattle.trees.specs.Rules.{Frame, Claim, Rule}
 
 mutual

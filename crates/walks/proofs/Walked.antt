@@ -5,16 +5,17 @@ use mathlib.Core.List.{List, [], ◌∷◌, ◌++◌, append_assoc}
 use Prim.Native.Nat.{ℕ, suc, ◌+◌, ◌-◌, ◌<◌, ◌≤◌}
 use native.Mathlib.Numerals.{add-one}
 use native.Mathlib.Omega.{arith}
+use Rattle.std.specs.Prelude.{Ok, Err}
 use lib.ListN.{length, get_or, take, drop, length-append, length-drop, take-append-drop, drop_of_length-le}
 use lib.Seq.{slice, slice_empty, slice-cons, length-slice, take-take, take-suc, take-add, take_all}
 use lib.Seq.{take-append_seam, length-take-le, drop-cons, drop_at, drop-append-le, split_at}
-use Rattle.trees.specs.Nodes.{Node}
+use Rattle.trees.specs.declared.Node.{Node}
 use Rattle.trees.specs.Rules.{Frame, Claim, Rule}
 use Rattle.trees.specs.Trees.{Tree, grown, Forest, none, more}
 use Rattle.trees.specs.Place.{Breaks, wrong, missing, later}
 use Rattle.trees.specs.Place
 use Rattle.walks.specs.inside.Walks.{Walks}
-use Rattle.walks.specs.declared.Step.TheVariants.{Next, Bad}
+use Rattle.walks.specs.declared.Broken.{Broken}
 use Rattle.trees.proofs.Needs.{needs-one}
 use Rattle.trees.proofs.Forests.{tree-some, forest-append, tree-alone, Parted, forest-parts}
 use Rattle.trees.proofs.Places.{breaks-after}
@@ -66,7 +67,7 @@ module _ (frame : Frame) (c : Claim) (nodes : List Node) (at : ℕ) where
   tree-ends k le t = omega (arith, tree-some t, length-slice at k nodes le)
 
   -- where the walk breaks off, no tree begins the words that are left
-  bad-begins : (q : ℕ) → at ≤ length nodes → Walks frame c nodes at (Bad q)
+  bad-begins : (q : Broken) → at ≤ length nodes → Walks frame c nodes at (Err q)
       → (us vs : List Node) → drop at nodes ≡ us ++ vs → ¬ Tree frame c us
   bad-begins q le w us vs e t =
       w.3 (at + length us) (begins-inside nodes at le us vs e)
@@ -80,7 +81,8 @@ pub record PassedParts (frame : Frame) (nodes : List Node) (at : ℕ) (claims : 
   pub behind : Forest frame (take m claims) (slice (suc at) next nodes)
 
 module _ (frame : Frame) (c : Claim) (nodes : List Node) (at : ℕ) where
-  pub walk-missing : at ≤ length nodes → length nodes ≤ at → Walks frame c nodes at (Bad at)
+  pub walk-missing : at ≤ length nodes → length nodes ≤ at
+      → Walks frame c nodes at (Err (record { place = at }))
   walk-missing le ge = (
     omega arith,
     le,
@@ -96,7 +98,8 @@ module _ (frame : Frame) (c : Claim) (nodes : List Node) (at : ℕ) where
     rooted k in-it t =
         subst (Tree frame c) (slice-cons at k nodes z (tree-ends frame c nodes at k in-it t) in-it) t
 
-    pub walk-wrong : Place.NoRule frame c (get_or nodes at z) → Walks frame c nodes at (Bad at)
+    pub walk-wrong : Place.NoRule frame c (get_or nodes at z)
+        → Walks frame c nodes at (Err (record { place = at }))
     walk-wrong n = (
       omega arith,
       omega arith,
@@ -115,7 +118,7 @@ module _ (frame : Frame) (c : Claim) (nodes : List Node) (at : ℕ) where
 
     module _ (claims : List Claim) (next m : ℕ) (p : PassedParts frame nodes at claims next m) (y : Claim)
         (short : m < length claims) where
-      pub passed-more : (k : ℕ) → Walks frame (get_or claims m y) nodes next (Next k)
+      pub passed-more : (k : ℕ) → Walks frame (get_or claims m y) nodes next (Ok k)
           → PassedParts frame nodes at claims k (m + 1)
       passed-more k w = record {
         after = omega (arith, p.after, w.0);
@@ -129,8 +132,8 @@ module _ (frame : Frame) (c : Claim) (nodes : List Node) (at : ℕ) where
 
       -- The parts of a tree for the whole claim begin with the forest passed, so the tree of the next part
       -- would begin where its walk breaks off.
-      part-missing : (q : ℕ) → Rule frame c (get_or nodes at z) claims
-          → Walks frame (get_or claims m y) nodes next (Bad q) → (k : ℕ) → k ≤ length nodes
+      part-missing : (q : Broken) → Rule frame c (get_or nodes at z) claims
+          → Walks frame (get_or claims m y) nodes next (Err q) → (k : ℕ) → k ≤ length nodes
           → ¬ Tree frame c (slice at k nodes)
       part-missing q r w k in-it t =
           first-missing (drop k nodes)
@@ -155,26 +158,28 @@ module _ (frame : Frame) (c : Claim) (nodes : List Node) (at : ℕ) where
           left : drop next nodes ≡ parts.after ++ drop k nodes
           left = forest-rest p.behind parts.first (drop next nodes) (parts.after ++ drop k nodes) whole
 
-      pub walk-bad : (q : ℕ) → Rule frame c (get_or nodes at z) claims
-          → Walks frame (get_or claims m y) nodes next (Bad q) → Walks frame c nodes at (Bad q)
+      pub walk-bad : (q : Broken) → Rule frame c (get_or nodes at z) claims
+          → Walks frame (get_or claims m y) nodes next (Err q) → Walks frame c nodes at (Err q)
       walk-bad q r w = (
         omega (arith, p.after, w.0),
         w.1,
-        λ rest. subst (λ ws. Breaks frame (c ∷ rest) ws (q - at)) (sym (drop-cons nodes at z lt))
+        λ rest. subst (λ ws. Breaks frame (c ∷ rest) ws (q.place - at)) (sym (drop-cons nodes at z lt))
             (subst (Breaks frame (c ∷ rest) (get_or nodes at z ∷ drop (suc at) nodes)) (place rest)
             (later r
             (subst
-            (λ cs. Breaks frame cs (drop (suc at) nodes) (length (slice (suc at) next nodes) + (q - next)))
+            (λ cs. Breaks frame cs (drop (suc at) nodes)
+            (length (slice (suc at) next nodes) + (q.place - next)))
             (claimed rest)
             (subst (λ ws. Breaks frame (take m claims ++ (get_or claims m y ∷ (drop (suc m) claims ++ rest)))
             ws
-            (length (slice (suc at) next nodes) + (q - next)))
+            (length (slice (suc at) next nodes) + (q.place - next)))
             (slice-drop nodes (suc at) next p.after p.inside)
             (breaks-after p.behind (w.2 (drop (suc m) claims ++ rest))))))),
         part-missing q r w,
       )
         where
-          place : (rest : List Claim) → suc (length (slice (suc at) next nodes) + (q - next)) ≡ q - at
+          place : (rest : List Claim)
+              → suc (length (slice (suc at) next nodes) + (q.place - next)) ≡ q.place - at
           place rest = omega (arith, length-slice (suc at) next nodes p.inside, p.after, w.0)
 
           claimed : (rest : List Claim)
@@ -185,7 +190,7 @@ module _ (frame : Frame) (c : Claim) (nodes : List Node) (at : ℕ) where
               (ap (λ ds. take m claims ++ ds) (sym (drop-cons claims m y short)) ∙ take-append-drop m claims)
 
     pub walk-done : (claims : List Claim) (next m : ℕ) → PassedParts frame nodes at claims next m
-        → length claims ≤ m → Rule frame c (get_or nodes at z) claims → Walks frame c nodes at (Next next)
+        → length claims ≤ m → Rule frame c (get_or nodes at z) claims → Walks frame c nodes at (Ok next)
     walk-done claims next m p all r = (
       p.after,
       p.inside,

@@ -5,74 +5,65 @@ ghost use Rattle.std.specs.Prelude.{◌+◌, ◌≤◌, ◌<◌, map, length};
 ghost use Rattle.rules.specs.Tables.{formula_of};
 ghost use Rattle.trees.specs.Nodes.{node_of};
 ghost use Rattle.trees.specs.Rules.{claim};
-ghost use Rattle.trees.specs.Frames.{schedule_frame};
+ghost use Rattle.trees.specs.inside.Lent.{frame_of};
 ghost use Rattle.nodes.specs.inside.Tested.{Within};
 ghost use Rattle.walks.specs.inside.Walks.{Walks};
 
 use nodes::node_fits;
 use parts::{demands_of, part_at};
 use rules::entry_at;
-use trees::{Verdict, rule_of};
+use schedule::LentLetters;
+use trees::{Node, Verdict};
 
-// Where the walk stands after a tree, or the place of the word at which it breaks.
-#[derive(Clone, Copy)]
-pub enum Step {
-    Next(usize),
-    Bad(usize),
+// The place of the word at which words break off from being a tree.
+#[derive(Clone, Copy, Debug, PartialEq, Eq)]
+pub struct Broken {
+    pub place: usize,
 }
 
-// The walk through a tree for an entry, a position and a needed verdict, from a place on. It calls itself for
-// the parts, which are earlier entries.
-pub fn walk<'a>(
-    prefix: &'a [u32],
-    looped: &'a [u32],
+// The walk through a tree for an entry, a position and a needed verdict, from a place on: the place behind
+// the tree. It calls itself for the parts, which are earlier entries. (What is needed of a part stands in
+// three parameters: a struct by value would deepen every level of the stack. The place is one too, since it
+// is what is answered where words break off.)
+pub fn walk(
+    letters: &LentLetters<'_>,
     table: &[u32],
     tree: &[u32],
     entry: usize,
     position: usize,
     needed: Verdict,
     place: usize,
-) -> Step
-    requires { Within (length prefix.now) (length looped.now) entry position
+) -> Result<usize, Broken>
+    requires { Within (length letters.now.prefix.now) (length letters.now.looped.now) entry position
         × (place ≤ length tree.now) }
-    ensures { Walks (schedule_frame prefix.now looped.now)
+    ensures { Walks (frame_of letters.now)
         (claim (formula_of table.now entry) position needed)
         (map node_of tree.now) place result }
 {
-    if tree.len() <= place {
-        return Step::Bad(place);
-    }
-    let word = tree[place];
+    let Some(&word) = tree.get(place) else {
+        return Err(Broken { place });
+    };
     let here = entry_at(table, entry);
-    if !node_fits(prefix, looped, table, here, entry, position, needed, word) {
-        return Step::Bad(place);
+    if !node_fits(*letters, table, here, entry, position, needed, word) {
+        return Err(Broken { place });
     }
-    let rule = rule_of(word);
+    let Node { rule, number, .. } = Node::from(word);
     if rule < 3 {
-        return Step::Next(place + 1); // rules 1 and 2: most nodes are these, and have no parts
+        return Ok(place + 1); // rules 1 and 2: most nodes are these, and have no parts
     }
-    let demands = demands_of(here, position, needed, rule, (word % 65536) as usize);
-    let verdict = demands.verdict;
-    let parts = demands.fixed + demands.count;
+    let demands = demands_of(here, position, needed, rule, number);
     let mut next = place + 1;
-    let mut m = 0;
-    while m < parts {
+    for m in 0..demands.fixed + demands.count {
         let part = part_at(demands, m);
-        let step = walk(
-            prefix,
-            looped,
+        next = walk(
+            letters,
             table,
             tree,
             part.entry,
             part.position,
-            verdict,
+            demands.verdict,
             next,
-        );
-        let Step::Next(after) = step else {
-            return step;
-        };
-        next = after;
-        m += 1;
+        )?;
     }
-    Step::Next(next)
+    Ok(next)
 }

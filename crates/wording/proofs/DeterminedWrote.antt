@@ -12,7 +12,8 @@ use lib.Seq.{take-append_seam}
 use Rattle.schedule.specs.Figures.{Figures}
 use Rattle.schedule.specs.Tests.{none, also}
 use Rattle.schedule.proofs.Tests.{passes-both}
-use Rattle.trees.specs.Nodes.{Node, node_of}
+use Rattle.trees.specs.Nodes.{node_of}
+use Rattle.trees.specs.declared.Node.{Node}
 use Rattle.trees.proofs.WordOrder.{words-one}
 use Rattle.trees.proofs.Order.{least-one}
 use Rattle.asking.specs.Answers.{verdict_with}

@@ -17,7 +17,8 @@ use Rattle.rules.specs.declared.Entry.TheVariants.{Atom, One, Two, Broken}
 use Rattle.rules.specs.declared.Unary.TheVariants.{Not}
 use Rattle.rules.specs.declared.Binary.TheVariants.{Or, And, Since, Until}
 use Rattle.rules.proofs.Tested.{low-exact}
-use Rattle.trees.specs.Nodes.{Node, node_of}
+use Rattle.trees.specs.Nodes.{node_of}
+use Rattle.trees.specs.declared.Node.{Node}
 use Rattle.trees.specs.Rules.{Frame, Claim, Rule, rule1, rule2, rule3, rule4, rule5, rule6, rule7, rule8}
 use Rattle.trees.specs.Rules.{rule9, rule10, rule11, rule12, rule13, rule14, rule15, rule16}
 use Rattle.trees.specs.Trees.{Tree}

@@ -5,6 +5,7 @@ use mathlib.Core.List.{List}
 use Prim.Native.Nat.{ℕ, ◌<◌, ◌≤◌}
 use native.Mathlib.Omega.{arith}
 use lib.ListN.{length, length-map}
+use Rattle.std.specs.Prelude.{Result, Err, ⊤}
 use Rattle.schedule.specs.Figures.{Figures, refusal}
 use Rattle.schedule.specs.Tests.{AllPass}
 use Rattle.trees.specs.Nodes.{node_of}
@@ -16,10 +17,14 @@ use Rattle.cells.proofs.Meant.{cell-one}
 use Rattle.search.proofs.Clearing.{fills-cleared}
 use Rattle.roots.specs.inside.Rooted.{cell_price}
 use Rattle.writing.specs.inside.Writes.{Writable, Room, Writes}
-use Rattle.asking.specs.Answers.{verdict_with}
+use Rattle.asking.specs.Answers.{verdict_with, figures_of}
+use Rattle.asking.specs.declared.Judged.{Judged}
+use Rattle.asking.specs.declared.Refusal.{Refusal}
+use Rattle.asking.specs.inside.Gates.{Gates}
+use Rattle.asking.proofs.Accepting.{gates-first}
 use Rattle.asking.specs.Questions.{Question, frame_in, formula_in, work_tests}
 use Rattle.schedule.specs.Limits.{max_words}
-use Rattle.finding.specs.Worked.{answered}
+use Rattle.finding.specs.Worked.{refused, answered}
 use Rattle.wording.specs.Wrote.{Written, unwritten, too_short, written, Wrote}
 use Rattle.looking.specs.inside.Looked.{verdict_in, FilledIn, CellIn, CellRead}
 use Rattle.wording.specs.inside.WritesOut.{WritesOut}
@@ -82,3 +87,11 @@ wrote-out q found left passed reads clears out =
       answer = answered passed (clears ∙ fills-cleared reads.fills) out.answer;
       untouched = out.untouched;
     }
+
+-- A question that is refused, from the gate that it was put to.
+pub wrote-refused : (q : Question) (found tree : List ℕ) {gate : Result ⊤ Refusal}
+    {outcome : Result Judged Refusal} {x : Refusal} → gate ≡ Err x → Gates (work_tests q (length found)) gate
+    → (y : Refusal) × (outcome ≡ Err y) × (y ≡ x) → Wrote q found found tree tree (figures_of outcome)
+wrote-refused q found tree is g (y, errs, same) =
+    subst (λ o. Wrote q found found tree tree (figures_of o)) (sym (errs ∙ ap Err same))
+    (record { answer = refused (gates-first is g) refl; untouched = λ _. refl })

@@ -2,7 +2,8 @@
 -- else the words of the least tree.
 use Rattle.std.specs.Prelude.{ℕ, ◌<◌, ◌≤◌, ◌≡◌, List, map, length}
 use Rattle.schedule.specs.Figures.{Figures, refusal}
-use Rattle.trees.specs.Nodes.{Node, node_of}
+use Rattle.trees.specs.Nodes.{node_of}
+use Rattle.trees.specs.declared.Node.{Node}
 use Rattle.asking.specs.Answers.{verdict_with}
 use Rattle.asking.specs.Questions.{Question}
 use Rattle.schedule.specs.Limits.{max_words}

@@ -7,7 +7,7 @@ use borrow.Author.Tests.{ltb-true}
 use lib.Dec.{eqb, ltb, leb}
 use Rattle.rules.specs.Formula.{Formula}
 use Rattle.rules.specs.Tables.{joined, build}
-use Rattle.rules.specs.Entries.{is_alone, are_earlier, binary_of, pair_of, entry_from, entry_of}
+use Rattle.rules.specs.Entries.{is_alone, are_earlier, binary_of, entry_of}
 use Rattle.rules.specs.declared.Entry.{Entry}
 use Rattle.rules.specs.declared.Entry.TheVariants.{One, Broken}
 use Rattle.rules.specs.declared.Unary.TheVariants.{Not}
@@ -27,11 +27,10 @@ joined_small Since f g = omega arith
 joined_small Until f g = omega arith
 
 alone-small : (l r : ℕ) → is_alone 32 l r ≡ true → l < 32
-unfolding is_alone
 alone-small l r e = ltb-true l 32 (and_both (ltb l 32) (eqb r 0) e).0
 
 pub atom-small : (i w : ℕ) (part : ℕ → Formula) → formula_atom (build part (entry_of i w)) < 32
-unfolding entry_of entry_from pair_of
+unfolding entry_of
 atom-small i w =
     let k = w / 65536 in
     let l = w / 256 % 256 in

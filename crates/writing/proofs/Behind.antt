@@ -3,7 +3,8 @@ use Prim.Native.Nat.{ℕ, ◌+◌}
 use mathlib.Core.Path.{◌≡◌}
 use mathlib.Core.List.{List}
 use lib.ListN.{get_or}
-use Rattle.trees.specs.Nodes.{Node, node_of}
+use Rattle.trees.specs.Nodes.{node_of}
+use Rattle.trees.specs.declared.Node.{Node}
 use Rattle.trees.specs.Frames.{schedule_frame}
 use Rattle.trees.specs.Least.{ones}
 use Rattle.nodes.specs.inside.Demands.{claims_of}

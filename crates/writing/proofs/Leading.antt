@@ -17,7 +17,8 @@ use Rattle.rules.specs.declared.Unary.TheVariants.{Not}
 use Rattle.rules.specs.declared.Binary.TheVariants.{Or, And, Since, Until}
 use Rattle.rules.proofs.Entries.{PartsBelow, parts-earlier}
 use Rattle.rules.proofs.Unrolls.{formula-unrolls}
-use Rattle.trees.specs.Nodes.{Node, node}
+use Rattle.trees.specs.Nodes.{node}
+use Rattle.trees.specs.declared.Node.{Node}
 use Rattle.trees.specs.Rules.{Frame, Claim, claim, Rule, rule5, rule9, rule11, rule12, rule14, rule15}
 use Rattle.trees.specs.Trees.{Tree}
 use Rattle.trees.specs.Frames.{schedule_frame}
@@ -48,9 +49,8 @@ use Rattle.search.specs.inside.Filling.{FilledBelow}
 use Rattle.search.proofs.Filling.{cols-small}
 use Rattle.scans.specs.inside.Scans.{price_in}
 use Rattle.roots.specs.inside.Roots.{Readable, RootFor}
-use Rattle.roots.specs.inside.Rooted.{cell_price, root_node}
+use Rattle.roots.specs.inside.Rooted.{cell_price}
 use Rattle.writing.specs.inside.Writes.{Writable, RootOfLeast, Rooted}
-use Rattle.roots.specs.declared.Root.{Root}
 use Rattle.writing.proofs.Atoms.{atom-small}
 use Rattle.roots.proofs.PartPrices.{held_by, part-price}
 use Rattle.roots.proofs.PlainFinds.{atom-found, not_found, or-found, and-found}
@@ -105,12 +105,12 @@ module _ {cost : Cost} {weight : ℕ → ℕ} (by-atoms : ByAtoms cost weight) {
 -- The node y is what an entry's kind finds.
 pub record Finds (work : List ℕ) (x : Entry) (i : ℕ) (held : Bool) (price : ℕ) (y : Node) : Type 0 where
   pub readable : Readable work x i held price
-  pub found : (r : Root) → RootFor work x i held price r → y ≡ node r.rule r.atom r.number
+  pub found : (r : Node) → RootFor work x i held price r → y ≡ node r.rule r.atom r.number
 
 each_first : {P : Claim → Type 0} {c : Claim} {cs : List Claim} → Each P (c ∷ cs) → P c
 each_first (also p ps) = p
 
-root-node : {y : Node} {r a n : ℕ} (x : Root) → x ≡ record { rule = r; atom = a; number = n } → y ≡ node r a n
+root-node : {y : Node} {r a n : ℕ} (x : Node) → x ≡ record { rule = r; atom = a; number = n } → y ≡ node r a n
     → y ≡ node x.rule x.atom x.number
 root-node x e p = p ∙ ap (λ z. node z.rule z.atom z.number) (sym e)
 
@@ -252,19 +252,20 @@ led by-atoms prefix loop table e i work a =
 -- The same for what the code has read: the entry, the verdict of its cell and the price.
 module _ {cost : Cost} {prefix loop table : List ℕ} {e i : ℕ} {work : List ℕ}
     (d : Led cost prefix loop table e i work) where
-  pub read-finds : {x : Entry} {held : Bool} {price : ℕ} → x ≡ entry_at table e
-      → held ≡ holds_in (row_of work e i) → price ≡ price_in held (row_of work e i)
-      → Finds work x i held price d.root
+  pub read-finds : {x : Entry} {cell price : ℕ} {held : Bool} → x ≡ entry_at table e → cell ≡ row_of work e i
+      → held ≡ holds_in cell → price ≡ price_in held cell → Finds work x i held price d.root
   unfolding cell_price
-  read-finds {x} {held} {price} ex eh es =
+  read-finds {x} {cell} {price} {held} ex ec eh es =
       let c = row_of work e i in
+      let held-in : held ≡ holds_in c = eh ∙ ap holds_in ec in
+      let priced : price ≡ price_in held c = es ∙ ap (price_in held) ec in
       subst (λ y. Finds work y i held price d.root) (sym ex)
-      (subst (λ n. Finds work (entry_at table e) i held n d.root) (sym es)
-      (subst (λ h. Finds work (entry_at table e) i h (price_in h c) d.root) (sym eh) d.finds))
+      (subst (λ n. Finds work (entry_at table e) i held n d.root) (sym priced)
+      (subst (λ h. Finds work (entry_at table e) i h (price_in h c) d.root) (sym held-in) d.finds))
 
 -- a root that is found leads the least tree, and fits a word
 pub led-root : {cost : Cost} {prefix loop table : List ℕ} {e i : ℕ} {work : List ℕ}
-    (d : Led cost prefix loop table e i work) {r : Root} → d.root ≡ root_node r
+    (d : Led cost prefix loop table e i work) {r : Node} → d.root ≡ r
     → Rooted cost (schedule_frame prefix loop) (formula_of table e) i (cell_price (row_of work e i)) r
 led-root {cost} {prefix} {loop} {table} {e} {i} {work} d is = record {
   leads = subst

@@ -8,7 +8,8 @@ use native.Mathlib.Omega.{arith}
 use lib.ListN.{length, get_or, set, length-append, length-set}
 use Rattle.rules.specs.Tables.{entry_at, formula_of}
 use Rattle.rules.specs.declared.Entry.{Entry}
-use Rattle.trees.specs.Nodes.{Node, node_of}
+use Rattle.trees.specs.Nodes.{node_of}
+use Rattle.trees.specs.declared.Node.{Node}
 use Rattle.trees.specs.Rules.{Claim, claim}
 use Rattle.trees.specs.Frames.{schedule_frame}
 use Rattle.trees.specs.Least.{Cost, cost_of, Least}

@@ -6,8 +6,10 @@ use native.Mathlib.Numerals.{add-one}
 use native.Mathlib.Omega.{arith}
 use lib.ListN.{length, get_or, drop, set, length-append, length-map, length-set, drop_of_length-le}
 use lib.Seq.{drop-cons}
+use Rattle.std.proofs.lemmas.List.{map-append}
 use Rattle.rules.specs.Formula.{Formula}
-use Rattle.trees.specs.Nodes.{Node, node_of}
+use Rattle.trees.specs.Nodes.{node_of}
+use Rattle.trees.specs.declared.Node.{Node}
 use Rattle.trees.specs.Rules.{Frame, Claim}
 use Rattle.trees.specs.Least.{Cost, cost_of, Least}
 use Rattle.trees.proofs.Order.{cost-append, least-one}
@@ -28,10 +30,6 @@ pub record Underway (cost : Cost) (frame : Frame) (claims : List Claim) (whole :
   pub ends : next ≡ at + length words
   pub leaves : tree ≡ put at words found
   pub inside : at + length whole ≤ length found
-
-map-append : (ws vs : List ℕ) → map node_of (ws ++ vs) ≡ map node_of ws ++ map node_of vs
-map-append [] vs = refl
-map-append (w ∷ ws) vs = ap (λ l. node_of w ∷ l) (map-append ws vs)
 
 forest-none : {cost : Cost} {frame : Frame} {cs : List Claim} {ws : List Node} → cs ≡ []
     → LeastForest cost frame cs ws → ws ≡ []
@@ -87,7 +85,7 @@ module _ {cost : Cost} {frame : Frame} {claims : List Claim} {whole : List Node}
       record {
         words = a.words ++ b.words;
         rest = n.others;
-        joined = ap (λ l. l ++ n.others) (map-append a.words b.words)
+        joined = ap (λ l. l ++ n.others) (map-append node_of a.words b.words)
             ∙ append_assoc (map node_of a.words) (map node_of b.words) n.others
             ∙ ap (λ l. map node_of a.words ++ l) (ap (λ l. l ++ n.others) (sym same) ∙ sym n.is)
             ∙ a.joined;

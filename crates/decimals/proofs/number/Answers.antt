@@ -1,36 +1,50 @@
 -- `decimals::number` meets its contract: a law a return, and one a turn.
-use Rattle.std.proofs.Common.{arith}
-use Rattle.decimals.proofs.Reading.{read-end, read-no-digit, read-first-large, read_first}
-use Rattle.decimals.proofs.Reading.{read-zero, read-large, read-turn}
+use Rattle.std.proofs.Common.{arith, subst, ap, sym}
+use lib.ListN.{get_or}
+use Rattle.decimals.specs.inside.Numbers.{NoDigit}
+use Rattle.decimals.proofs.Reading.{digit-first, digit-behind, none-numbered, read-no-digit}
+use Rattle.decimals.proofs.Reading.{read_first, read-zero, read-large, read-turn}
 use Rattle.decimals.proofs.number.Goals as goal
 
-pub returns-then-text-at : goal.returns-then-text-at
-returns-then-text-at c = read-end c.if-text-at.true
+pub returns-in_err-value : goal.returns-in_err-value
+returns-in_err-value c =
+    none-numbered c.from_residual-in_err-value.ensures
+    (read-no-digit (subst NoDigit (ap (λ l. get_or l 0 0) (sym c.in_ok-first.ensures.cases.0))
+    c.in_err-value.ensures))
 
-pub returns-then-n-eq10 : goal.returns-then-n-eq10
-returns-then-n-eq10 c = read-no-digit (c.figure-n.ensures.1.none (omega (arith, c.if-n-eq10.true)))
+pub loop-k-init : goal.loop-k-init
+loop-k-init c =
+    read_first (digit-first c.in_ok-first.ensures.cases.0 c.in_ok-value.ensures)
+    (omega arith) c.if-max-value.false
 
-pub returns-then-max-n : goal.returns-then-max-n
-returns-then-max-n c =
-    read-first-large c.if-text-at.false c.figure-n.ensures.1
-    (omega (arith, c.figure-n.ensures.0, c.if-n-eq10.false)) c.if-max-n.true
+pub returns-then-value-eq0 : goal.returns-then-value-eq0
+returns-then-value-eq0 c =
+    read-zero c.loop-k.invariant
+    (digit-behind c.in_ok-first.ensures.cases.0 c.loop-k-test.true c.in-Some.ensures) (omega arith)
 
-pub loop-next-init : goal.loop-next-init
-loop-next-init c =
-    read_first c.if-text-at.false c.figure-n.ensures.1
-    (omega (arith, c.figure-n.ensures.0, c.if-n-eq10.false)) c.if-max-n.false
+pub returns-in_err-checked_mul : goal.returns-in_err-checked_mul
+returns-in_err-checked_mul c =
+    none-numbered c.from_residual-in_err-checked_mul.ensures
+    (read-large c.loop-k.invariant
+    (digit-behind c.in_ok-first.ensures.cases.0 c.loop-k-test.true c.in-Some.ensures)
+    (omega (arith, c.in_err-checked_mul.ensures, c.ranges.max.fits)))
 
-pub returns-then-n-eq0 : goal.returns-then-n-eq0
-returns-then-n-eq0 c =
-    read-zero c.loop-next.invariant c.loop-next-test.true c.figure-digit.ensures.1
-    (omega (arith, c.figure-digit.ensures.0, c.if-digit-eq10.false)) (omega arith)
+pub returns-in_err-value-2 : goal.returns-in_err-value-2
+returns-in_err-value-2 c =
+    none-numbered c.from_residual-in_err-value-2.ensures
+    (read-large c.loop-k.invariant
+    (digit-behind c.in_ok-first.ensures.cases.0 c.loop-k-test.true c.in-Some.ensures)
+    (omega (arith, c.in_ok-checked_mul.ensures, c.in_err-value-2.ensures, c.ranges.max.fits)))
 
-pub returns-then-max-n-2 : goal.returns-then-max-n-2
-returns-then-max-n-2 c =
-    read-large c.loop-next.invariant c.loop-next-test.true c.figure-digit.ensures.1
-    (omega (arith, c.figure-digit.ensures.0, c.if-digit-eq10.false)) c.if-max-n-2.true
+pub returns-then-max-value-2 : goal.returns-then-max-value-2
+returns-then-max-value-2 c =
+    read-large c.loop-k.invariant
+    (digit-behind c.in_ok-first.ensures.cases.0 c.loop-k-test.true c.in-Some.ensures)
+    (omega (arith, c.in_ok-checked_mul.ensures, c.in_ok-value-2.ensures, c.if-max-value-2.true))
 
-pub loop-next-preserved : goal.loop-next-preserved
-loop-next-preserved c =
-    read-turn c.loop-next.invariant c.loop-next-test.true c.figure-digit.ensures.1
-    (omega (arith, c.figure-digit.ensures.0, c.if-digit-eq10.false)) (omega arith) c.if-max-n-2.false
+pub loop-k-preserved : goal.loop-k-preserved
+loop-k-preserved c =
+    read-turn c.loop-k.invariant
+    (digit-behind c.in_ok-first.ensures.cases.0 c.loop-k-test.true c.in-Some.ensures)
+    (omega arith)
+    (omega (arith, c.in_ok-checked_mul.ensures, c.in_ok-value-2.ensures)) (omega arith) c.if-max-value-2.false

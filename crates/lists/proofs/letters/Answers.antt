@@ -1,32 +1,34 @@
 -- `lists::letters` meets its contract: a law a return.
-use Rattle.std.proofs.Common.{◌+◌, length}
+use Rattle.std.proofs.Common.{[], ◌∷◌}
+use Rattle.std.specs.Prelude.{Some, None}
+use Rattle.std.proofs.lemmas.Slice.Eq.{strip_prefix_is}
+use Rattle.std.proofs.lemmas.Bool.Decides.{Decides-eqb}
 use Rattle.lists.specs.Lines.{Letters}
 use Rattle.lists.specs.inside.Lists.{Lists}
-use Rattle.lists.specs.declared.Listing.TheVariants.{Wrong, Read}
-use Rattle.lists.proofs.Keyed.{word-wrong, word-lists, letters-end, letters-none, letters-some}
+use Rattle.lists.proofs.Keyed.{none-listed, word-wrong, word-lists, letters-none, letters-some}
 use Rattle.lists.proofs.letters.Goals as goal
 
-pub returns-then-not-begins : goal.returns-then-not-begins
-unfolding Lists
-returns-then-not-begins c =
-    word-wrong Letters c.args.text.now c.args.at c.args.word.now c.if-not-begins.ensures
+pub returns-in_err-listed : goal.returns-in_err-listed
+returns-in_err-listed c =
+    none-listed _ _ _ _ _ c.from_residual.ensures
+    (word-wrong Letters c.args.text.now c.args.word.now
+    (strip_prefix_is Decides-eqb c.args.text.now c.args.word.now None c.in_err-listed.ensures.cases))
 
-pub returns-then-text-from : goal.returns-then-text-from
+pub returns-in-Some : goal.returns-in-Some
 unfolding Lists
-returns-then-text-from c =
-    word-lists Letters c.args.text.now c.args.at c.args.word.now c.if-not-begins.ensures
-    c.args.keep.now c.args.keep.now Wrong (letters-end c.args.text.now _ c.if-text-from.true)
-
-pub returns-then-text-from-eq-NEWLINE : goal.returns-then-text-from-eq-NEWLINE
-unfolding Lists
-returns-then-text-from-eq-NEWLINE c =
-    let from = c.args.at + length c.args.word.now in
-    word-lists Letters c.args.text.now c.args.at c.args.word.now c.if-not-begins.ensures
-    c.args.keep.now c.args.keep.now (Read 0 (from + 1))
-    (letters-none c.args.text.now from c.args.keep.now c.if-text-from.false
-    c.if-text-from-eq-NEWLINE.true)
+returns-in-Some c =
+    let listed = c.in_ok-listed.listed in
+    word-lists Letters c.args.text.now c.args.word.now listed.now
+    (strip_prefix_is Decides-eqb c.args.text.now c.args.word.now (Some listed) c.in_ok-listed.ensures.cases)
+    c.args.keep.now c.args.keep.now (Some (record { count = 0; rest = c.in-Some.rest }))
+    (letters-none listed.now c.args.keep.now
+    (strip_prefix_is Decides-eqb listed.now (10 ∷ []) (Some c.in-Some.rest) c.in-Some.ensures.cases))
 
 pub returns : goal.returns
 returns c =
-    word-lists Letters c.args.text.now c.args.at c.args.word.now c.if-not-begins.ensures _ _ _
-    (letters-some c.args.text.now _ _ _ _ c.if-text-from-eq-NEWLINE.false c.commas.ensures)
+    let listed = c.in_ok-listed.listed in
+    word-lists Letters c.args.text.now c.args.word.now listed.now
+    (strip_prefix_is Decides-eqb c.args.text.now c.args.word.now (Some listed) c.in_ok-listed.ensures.cases)
+    _ _ _
+    (letters-some listed.now _ _ _
+    (strip_prefix_is Decides-eqb listed.now (10 ∷ []) None c.in_default.ensures.cases) c.commas.ensures)

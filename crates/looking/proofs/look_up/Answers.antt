@@ -1,24 +1,26 @@
 -- `looking::look_up` meets its contract: a refusal of 1 to 8, or the cell that the record's words give.
-use mathlib.Core.Path.{refl}
-use Rattle.looking.specs.inside.Looked.{refuses}
-use Rattle.asking.proofs.Accepting.{gates-first, gates-passed}
-use Rattle.asking.proofs.Limits.{question-few, work-question}
-use Rattle.asking.proofs.Reading.{read-works}
-use Rattle.looking.proofs.Reading.{read-looked}
+use mathlib.Core.Path.{◌∙◌}
+use Rattle.std.proofs.lemmas.Result.{err_from_is_err_and}
+use Rattle.asking.proofs.Accepting.{gates-passed}
+use Rattle.asking.proofs.Limits.{question-few, work-question, work-room}
+use Rattle.looking.proofs.Looking.{look-refused}
 use Rattle.looking.proofs.look_up.Goals as goal
 
-pub returns-in-Shut : goal.returns-in-Shut
-returns-in-Shut c = refuses (gates-first c.in-Shut.is c.accept_work-gate.ensures) refl
+pub returns-in_err-accept_work : goal.returns-in_err-accept_work
+returns-in_err-accept_work c =
+    look-refused _ _ c.in_err-accept_work.was c.accept_work.ensures
+    (err_from_is_err_and c.from_residual.result c.from_residual.ensures.1)
 
-pub table_of-record-requires : goal.table_of-record-requires
-table_of-record-requires c =
-    question-few _ (work-question _ _ (gates-passed c.in_default.is c.accept_work-gate.ensures))
+pub new-record-requires : goal.new-record-requires
+new-record-requires c =
+    question-few _ (work-question _ _ (gates-passed c.in_ok-accept_work.was c.accept_work.ensures))
 
-pub look_words-cell-requires : goal.look_words-cell-requires
-look_words-cell-requires c =
-    read-works c.args.table.now _ c.table_of-record.ensures _ _ _ _ _
-    (gates-passed c.in_default.is c.accept_work-gate.ensures)
+pub invariant_of-look_words : goal.invariant_of-look_words
+invariant_of-look_words c =
+    let same = c.entries-table.ensures ∙ c.new-record.ensures.read in
+    record {
+      tests = rw same (work-question _ _ (gates-passed c.in_ok-accept_work.was c.accept_work.ensures));
+    }
 
-pub returns : goal.returns
-returns c =
-    read-looked c.args.table.now _ c.table_of-record.ensures _ _ _ _ c.look_words-cell.ensures
+pub look_words-requires : goal.look_words-requires
+look_words-requires c = work-room _ _ (gates-passed c.in_ok-accept_work.was c.accept_work.ensures)

@@ -1,6 +1,5 @@
 -- What an answer is read from: the cell of a filled work slice.
-use Rattle.std.specs.Prelude.{ℕ, suc, ◌≡◌, cond, List, length}
-use Rattle.schedule.specs.Figures.{refusal}
+use Rattle.std.specs.Prelude.{ℕ, suc, ◌≡◌, cond, List, length, Result, Ok, Err}
 use Rattle.schedule.specs.Tests.{AllPass, FirstFails}
 use Rattle.trees.specs.Least.{ones}
 use Rattle.trees.specs.declared.Verdict.{Verdict}
@@ -9,11 +8,9 @@ use Rattle.cells.specs.inside.Cells.{holds_in}
 use Rattle.cells.specs.inside.Meant.{CellFor}
 use Rattle.search.specs.inside.Filling.{FilledBelow, Fills, reach_of}
 use Rattle.schedule.specs.Buffers.{cleared}
-use Rattle.asking.specs.Answers.{number_of}
+use Rattle.asking.specs.Answers.{refused}
 use Rattle.asking.specs.Questions.{Question, frame_in, formula_in, work_tests}
 use Rattle.asking.specs.declared.Refusal.{Refusal}
-use Rattle.looking.specs.declared.Look.{Look}
-use Rattle.looking.specs.declared.Look.TheVariants.{Refused, Cell}
 
 unfoldable pub verdict_in : ℕ → Verdict
 verdict_in cell = cond (holds_in cell) Holds Violated
@@ -34,8 +31,8 @@ pub record CellRead (q : Question) (found left : List ℕ) (cell : ℕ) : Type 0
   pub cell-for : CellIn q cell
 
 -- A refusal of 1 to 8 with the slice as found, or the cell of the question with the slice cleared.
-pub data Looked (q : Question) (found left : List ℕ) : Look → Type 0 where
-  refuses : {x : Refusal} → FirstFails (work_tests q (length found)) (refusal (number_of x)) → left ≡ found
-      → Looked q found left (Refused x)
+pub data Looked (q : Question) (found left : List ℕ) : Result ℕ Refusal → Type 0 where
+  refuses : {x : Refusal} → FirstFails (work_tests q (length found)) (refused x) → left ≡ found
+      → Looked q found left (Err x)
   sees : {cell : ℕ} → AllPass (work_tests q (length found)) → left ≡ cleared found → CellIn q cell
-      → Looked q found left (Cell cell)
+      → Looked q found left (Ok cell)

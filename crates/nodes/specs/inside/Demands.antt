@@ -8,7 +8,7 @@ use Rattle.trees.specs.declared.Verdict.{Verdict}
 use Rattle.trees.specs.declared.Verdict.TheVariants.{Holds, Violated}
 use Rattle.nodes.specs.declared.Demands.{Demands}
 use Rattle.nodes.specs.declared.Part.{Part}
-use Rattle.trees.specs.Nodes.{Node}
+use Rattle.trees.specs.declared.Node.{Node}
 use Rattle.nodes.specs.inside.Fits.{right_of, left_of}
 
 abbrev pub opposite : Verdict → Verdict
@@ -27,8 +27,7 @@ verdict_of s r = cond (eqb r 3 || eqb r 4) (opposite s) s
 unfoldable pub plain_demands : Entry → ℕ → Verdict → ℕ → Demands
 plain_demands x i s r = record {
   fixed = 1;
-  first = first_of x r;
-  place = i;
+  first = record { entry = first_of x r; position = i };
   member = right_of x;
   from = i;
   count = rule_fixed r - 1;
@@ -40,8 +39,7 @@ abbrev pub list_demands : ℕ → ℕ → ℕ → ℕ → ℕ → ℕ → Verdic
 list_demands r first place member from n s =
     record {
       fixed = rule_fixed r;
-      first = first;
-      place = place;
+      first = record { entry = first; position = place };
       member = member;
       from = from;
       count = n;
@@ -75,20 +73,20 @@ pub record Countable (r i n : ℕ) : Type 0 where
 -- The part that stands at a place in tree order.
 unfoldable pub part_of : Demands → ℕ → Part
 part_of d m =
-    cond (ltb m d.fixed) (record { entry = d.first; position = d.place })
+    cond (ltb m d.fixed) d.first
     (record { entry = d.member; position = d.from + (m - d.fixed) })
 
 -- The claims of the parts, in tree order.
 abbrev pub claims_of : List ℕ → Demands → List Claim
 claims_of table d =
-    run (formula_of table d.first) d.place d.fixed d.verdict
+    run (formula_of table d.first.entry) d.first.position d.fixed d.verdict
     ++ run (formula_of table d.member) d.from d.count d.verdict
 
 -- The parts' entries are earlier, and their positions within reach of them.
 pub record Earlier (e i : ℕ) (d : Demands) : Type 0 where
   pub one : d.fixed ≤ 1
-  pub first : 0 < d.fixed → d.first < e
-  pub place : d.place ≤ i + 65535
+  pub first : 0 < d.fixed → d.first.entry < e
+  pub place : d.first.position ≤ i + 65535
   pub member : 0 < d.count → d.member < e
   pub last : d.from + d.count ≤ i + 65536
 

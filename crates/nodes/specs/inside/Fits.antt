@@ -1,5 +1,6 @@
 -- What one node is tested for, past its form: kind, sign, count, position, letter.
-use Rattle.std.specs.Prelude.{ℕ, ◌+◌, ◌-◌, ◌/◌, ◌%◌, ◌^◌, ◌<◌, ◌≤◌, Bool, true, cond, ◌&&◌, List, eqb, leb}
+use Rattle.std.specs.Prelude.{ℕ, ◌+◌, ◌-◌, ◌/◌, ◌%◌, ◌^◌, ◌<◌, ◌≤◌, Bool, true, cond, ◌&&◌, List, length, eqb}
+use Rattle.std.specs.Prelude.{leb}
 use Rattle.schedule.specs.Limits.{max_letters, max_entries}
 use Rattle.rules.specs.Formula.{height}
 use Rattle.rules.specs.Tables.{formula_of}
@@ -39,10 +40,13 @@ right_of Broken = 0
 unfoldable pub fits_of : ℕ → Entry → Verdict → Bool
 fits_of r x s = eqb (rule_kind r) (kind_of x) && eqb (rule_sign r) (sign_of s)
 
+-- Rules 1 and 2, past kind and sign: the atom's number, position, letter.
+unfoldable pub atom_agrees : ℕ → ℕ → ℕ → Verdict → ℕ → ℕ → Bool
+atom_agrees letter named i s a n = eqb a named && (eqb n i && eqb (letter / 2 ^ a % 2) (2 - sign_of s))
+
 -- Rules 1 and 2, at a position with a letter: kind with the atom's number, sign, position, letter.
 unfoldable pub atom_fits : ℕ → Entry → ℕ → Verdict → ℕ → ℕ → ℕ → Bool
-atom_fits letter x i s r a n =
-    fits_of r x s && (eqb a (left_of x) && (eqb n i && eqb (letter / 2 ^ a % 2) (2 - rule_sign r)))
+atom_fits letter x i s r a n = fits_of r x s && atom_agrees letter (left_of x) i s a n
 
 -- Rules 11 to 16: which counts are allowed at a position. The window is rule 16's count.
 unfoldable pub count_fits : ℕ → ℕ → ℕ → ℕ → Bool
@@ -54,19 +58,21 @@ count_fits r i n window =
     (cond (eqb r 15) (leb 1 n)
     (eqb n window)))))
 
-unfoldable pub window_of : ℕ → ℕ → ℕ → ℕ → ℕ → ℕ
-window_of r u v i h = cond (eqb r 16) (window_count u v i h) 0
+-- The count of rule 16 over a right part: of two lists of letters, at a position.
+abbrev pub window_at : List ℕ → List ℕ → List ℕ → ℕ → ℕ → ℕ
+window_at prefix loop table right i =
+    window_count (length prefix) (length loop) i (height Past (formula_of table right))
 
 -- Rules 11 to 16, at a position of a schedule of two lengths: kind, sign, count.
 unfoldable pub list_fits : ℕ → ℕ → List ℕ → Entry → ℕ → Verdict → ℕ → ℕ → Bool
 list_fits u v table x i s r n =
-    fits_of r x s && count_fits r i n (window_of r u v i (height Past (formula_of table (right_of x))))
+    fits_of r x s && count_fits r i n (window_count u v i (height Past (formula_of table (right_of x))))
 
 -- What the sums of a count may rely on.
-pub record Counts (u v : ℕ) (x : Entry) (i r n : ℕ) : Type 0 where
+pub record Counts (u v right i r n : ℕ) : Type 0 where
   pub prefix : u ≤ max_letters
   pub loop : v ≤ max_letters
-  pub part : right_of x < max_entries
+  pub part : right < max_entries
   pub position : i < 2 ^ 40
   pub low : 11 ≤ r
   pub high : r ≤ 16

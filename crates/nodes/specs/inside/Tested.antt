@@ -1,7 +1,7 @@
 -- What the test of one node relies on and answers.
 use Rattle.std.specs.Prelude.{ℕ, ◌+◌, ◌*◌, ◌^◌, ◌<◌, ◌≤◌, Bool, true, false, List}
 use Rattle.schedule.specs.Limits.{max_letters, max_entries}
-use Rattle.trees.specs.Nodes.{Node}
+use Rattle.trees.specs.declared.Node.{Node}
 use Rattle.trees.specs.Rules.{Frame, Claim, Rule}
 use Rattle.trees.specs.Place.{NoRule}
 

@@ -1,11 +1,11 @@
--- What the loop of `questions::entry_lines` keeps: lines of entries stand up to the place, and their words
--- are kept.
-use Rattle.std.proofs.Common.{length, ◌-◌}
+-- What the loop of `questions::entry_lines` keeps: lines of entries stand before what is left, and their
+-- words are kept.
+use Rattle.std.proofs.Common.{length}
 use Rattle.questions.proofs.Entering.{Entering}
 use Rattle.questions.proofs.entry_lines.Given as goal
 
-abbrev pub invariant-loop-word : goal.invariant-loop-word
-invariant-loop-word l = Entering l.text l.fn.from l.initial.table l.at l.count l.table
+abbrev pub invariant-loop-line : goal.invariant-loop-line
+invariant-loop-line l = Entering l.text l.initial.table l.rest l.count l.table
 
-abbrev pub decreases-loop-word : goal.decreases-loop-word
-decreases-loop-word l = length l.text - l.at
+abbrev pub decreases-loop-line : goal.decreases-loop-line
+decreases-loop-line l = length l.rest

@@ -1,11 +1,14 @@
 -- `rendering::node_lines` meets its contract: a law at the start, and one a turn.
-use Rattle.rendering.proofs.Lines.{lined-none, lined-more}
+use Rattle.std.proofs.Common.{arith}
+use Rattle.rendering.proofs.Lines.{lined-none, lined-room, lined-more}
 use Rattle.rendering.proofs.node_lines.Goals as goal
 
-pub loop-k-init : goal.loop-k-init
-loop-k-init c = lined-none _ _ _ _ c.requires.1
+pub loop-word-init : goal.loop-word-init
+loop-word-init c = lined-none _ _ (omega (arith, c.requires))
 
-pub loop-k-preserved : goal.loop-k-preserved
-loop-k-preserved c =
-    lined-more c.loop-k.invariant c.loop-k-test.true c.requires.0 c.node_line-next.ensures.0
-    c.node_line-next.ensures.1
+pub node_line-requires : goal.node_line-requires
+node_line-requires c = lined-room c.loop-word.invariant c.loop-word-test.true c.requires
+
+pub loop-word-preserved : goal.loop-word-preserved
+loop-word-preserved c =
+    lined-more c.loop-word.invariant c.loop-word-test.true c.node_line.ensures.line c.node_line.ensures.short

@@ -1,11 +1,6 @@
--- What the loop of `rendering::node_lines` keeps: the lines of the words passed are placed, all else is as
--- found.
-use Rattle.std.proofs.Common.{◌-◌}
+-- What the loop of `rendering::node_lines` keeps: the lines of the words passed stand behind one another.
 use Rattle.rendering.proofs.Lines.{Lined}
 use Rattle.rendering.proofs.node_lines.Given as goal
 
-abbrev pub invariant-loop-k : goal.invariant-loop-k
-invariant-loop-k l = Lined l.tree l.size l.at l.initial.out l.out l.next l.k
-
-abbrev pub decreases-loop-k : goal.decreases-loop-k
-decreases-loop-k l = l.size - l.k
+abbrev pub invariant-loop-word : goal.invariant-loop-word
+invariant-loop-word l = Lined l.tree l.word-index l.initial.output l.output

@@ -1,33 +1,41 @@
 -- `rendering::rendered` meets its contract.
-use Rattle.std.proofs.Common.{ap, arith}
-use Rattle.printing.proofs.Placing.{placed-length}
+use Rattle.std.proofs.Common.{ap, length, length-take, arith}
+use Rattle.printing.proofs.Placing.{puts-length, puts-front}
 use Rattle.printing.proofs.Fields.{number-line-most}
-use Rattle.rendering.proofs.Answering.{refused-placed, judged-placed}
+use Rattle.rendering.proofs.Answering.{refused-put, judged-put}
 use Rattle.rendering.proofs.rendered.Goals as goal
+use Rattle.rendering.proofs.rendered.Goals.{in-Err, in-Ok}
 
-pub returns-then-number-ne0 : goal.returns-then-number-ne0
-returns-then-number-ne0 c =
-    refused-placed c.args.outcome c.answer_of-answer.ensures c.args.tree.now c.if-number-ne0.true
-    c.number_line.ensures
+pub number_line-requires-in-Ok : goal.number_line-requires-in-Ok
+number_line-requires-in-Ok c =
+    let v = c.verdict_line.ensures in
+    omega (arith, c.new-output.ensures.at, ap length c.new-output.ensures.bytes, v.short, puts-length v.line)
 
 pub node_lines-requires : goal.node_lines-requires
 node_lines-requires c =
-    let size = ap (λ f. f.size) c.answer_of-answer.ensures in
-    let v = c.verdict_line-next.ensures in
-    let s = c.number_line-lines.ensures in (
-      omega (arith, size, c.requires.1),
-      omega (
-        arith,
-        size,
-        c.requires.0,
-        v.1,
-        number-line-most s (omega (arith, size, c.requires.0)),
-        placed-length v.0,
-        placed-length s,
-      ),
+    let few = rw c.in-Ok.is at c.requires in
+    let v = c.verdict_line.ensures in
+    let s = c.number_line-in-Ok.ensures in
+    omega (
+      arith,
+      few.0,
+      length-take c.in-Ok.judged.size c.args.tree.now,
+      c.new-output.ensures.at,
+      ap length c.new-output.ensures.bytes,
+      v.short,
+      puts-length v.line,
+      number-line-most s (omega (arith, few.0)),
+      puts-length s,
     )
 
 pub returns : goal.returns
 returns c =
-    judged-placed c.args.outcome c.answer_of-answer.ensures c.args.tree.now c.if-number-ne0.false
-    c.verdict_line-next.ensures.0 c.number_line-lines.ensures c.node_lines.ensures
+    let new = c.new-output in
+    puts-front new.result c.match-outcome.output new.ensures.bytes new.ensures.at
+    (elim c.match-outcome.branch [
+      | in-Err w ↦
+          rw (w.in-Err.is, w.output-is) (refused-put _ _ (rw w.from.ensures at w.number_line.ensures))
+      | in-Ok w ↦
+          rw (w.in-Ok.is, w.output-is)
+          (judged-put _ _ w.verdict_line.ensures.line w.number_line-in-Ok.ensures w.node_lines.ensures)
+    ])

@@ -1,14 +1,16 @@
 -- `rendering::wrong_text` meets its contract.
-use Rattle.std.proofs.Common.{arith}
-use Rattle.printing.proofs.Placing.{placed-length}
+use Rattle.std.proofs.Common.{ap, length, arith}
+use Rattle.printing.proofs.Placing.{puts-length, puts-front}
 use Rattle.printing.proofs.Fields.{number-line-most}
-use Rattle.rendering.proofs.Answering.{wrong-placed}
+use Rattle.rendering.proofs.Answering.{wrong-put}
 use Rattle.rendering.proofs.wrong_text.Goals as goal
 
-pub number_line-requires : goal.number_line-requires
-number_line-requires c =
-    let p = c.number_line-next.ensures in
-    omega (arith, placed-length p, number-line-most p (omega arith))
+pub number_line-requires-2 : goal.number_line-requires-2
+number_line-requires-2 c =
+    let p = c.number_line.ensures in
+    omega (arith, ap length c.new-output.ensures.bytes, puts-length p, number-line-most p (omega arith))
 
 pub returns : goal.returns
-returns c = wrong-placed c.number_line-next.ensures c.number_line.ensures
+returns c =
+    puts-front _ _ c.new-output.ensures.bytes c.new-output.ensures.at
+    (wrong-put c.number_line.ensures c.number_line-2.ensures)

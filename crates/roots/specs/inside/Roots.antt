@@ -9,9 +9,9 @@ use Rattle.cells.specs.inside.Cells.{pro_of, con_of}
 use Rattle.rows.specs.inside.Rows.{row_of}
 use Rattle.scans.specs.inside.Scans.{prices_from, Reached, Scanned}
 use Rattle.scans.specs.declared.Met.{Met}
-use Rattle.roots.specs.declared.Root.{Root}
+use Rattle.trees.specs.declared.Node.{Node}
 
-abbrev pub root_with : ℕ → ℕ → ℕ → Root
+abbrev pub root_with : ℕ → ℕ → ℕ → Node
 root_with r a n = record { rule = r; atom = a; number = n }
 
 unfoldable pub sided_of : Bool → ℕ → ℕ
@@ -31,7 +31,7 @@ list_rule rule held alone = cond held rule (cond alone (rule + 2) (rule + 1))
 -- The witness is the right part where the whole holds, the left where it is
 -- violated; the members are the other.
 pub record ListRoot (work : List ℕ) (left right i : ℕ) (held ahead : Bool) (price rule : ℕ)
-    (r : Root) : Type 0 where
+    (r : Node) : Type 0 where
   pub met : Met
   pub scanned : Scanned (prices_from (row_of work (cond held right left)) held ahead i)
       (prices_from (row_of work (cond held left right)) held ahead i) held price met
@@ -53,7 +53,7 @@ Readable work (Two Since l r) i held price = ListReached work l r i held false p
 Readable work (Two Until l r) i held price = ListReached work l r i held true price
 Readable work Broken i held price = Unit
 
-abbrev pub RootFor : List ℕ → Entry → ℕ → Bool → ℕ → Root → Type 0
+abbrev pub RootFor : List ℕ → Entry → ℕ → Bool → ℕ → Node → Type 0
 RootFor work (Atom a) i held price x = x ≡ root_with (sided_of held 1) a i
 RootFor work (One Not l) i held price x = x ≡ root_with (sided_of held 3) 0 0
 RootFor work (Two Or l r) i held price x = x ≡ root_with (or_rule held (row_of work l i) price) 0 0

@@ -1,5 +1,4 @@
 -- The loop of `rows::atom_row`: the cells passed are filled, all else is as found.
-use Rattle.std.proofs.Common.{◌-◌, ◌≤◌}
 use Rattle.schedule.specs.Letters.{letter_at}
 use Rattle.cells.specs.inside.Cells.{atom_cell}
 use Rattle.rows.proofs.Rows.{Partly}
@@ -7,7 +6,5 @@ use Rattle.rows.proofs.atom_row.Given as goal
 
 abbrev pub invariant-loop-p : goal.invariant-loop-p
 invariant-loop-p l =
-    (l.p ≤ l.cols) × Partly l.row 0 l.p (atom_cell (letter_at l.prefix l.looped) l.atom) l.initial.work l.work
-
-abbrev pub decreases-loop-p : goal.decreases-loop-p
-decreases-loop-p l = l.cols - l.p
+    Partly l.row 0 l.p (atom_cell (letter_at l.letters.prefix.now l.letters.looped.now) l.atom)
+    l.initial.work l.work

@@ -1,14 +1,8 @@
 -- `rows::plain_row` meets its contract.
-use Rattle.std.proofs.Common.{rules}
-use Rattle.cells.proofs.Cells.{fits-plain}
 use Rattle.rows.proofs.Rows.{plain_turn}
 use Rattle.rows.proofs.plain_row.Goals as goal
 
-pub cell-requires : goal.cell-requires
-cell-requires c = fits-plain _ _ _ c.plain_state.ensures
-
 pub loop-p-preserved : goal.loop-p-preserved
-loop-p-preserved c = (
-  search rules,
-  plain_turn _ c.requires c.loop-p.invariant.1 c.loop-p-test.true c.plain_state.ensures c.cell.ensures,
-)
+loop-p-preserved g c =
+    plain_turn _ c.requires.1.0 c.loop-p-test.true c.loop-p.invariant
+    (c.requires.1.1.1 _ _ _ c.state-x.ensures) c.cell.ensures

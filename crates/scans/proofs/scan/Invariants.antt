@@ -1,16 +1,12 @@
 -- `scans::scan`: the loop's invariant, that no nearer witness meets the price, and one that does is not
 -- passed.
-use Rattle.std.proofs.Common.{◌-◌}
 use Rattle.rows.specs.inside.Rows.{row_of}
 use Rattle.scans.specs.inside.Scans.{prices_from}
 use Rattle.scans.proofs.Scanning.{Scanning}
 use Rattle.scans.proofs.scan.Given as goal
 
-abbrev pub invariant-loop-witness : goal.invariant-loop-witness
-invariant-loop-witness l =
-    Scanning (prices_from (row_of l.work l.witness) l.held l.ahead l.position)
-    (prices_from (row_of l.work l.member) l.held l.ahead l.position) l.held l.ahead l.position l.price l.n
-    l.sum
-
-abbrev pub decreases-loop-witness : goal.decreases-loop-witness
-decreases-loop-witness l = 1024 - l.n
+abbrev pub invariant-loop-n : goal.invariant-loop-n
+invariant-loop-n l =
+    Scanning (prices_from (row_of l.cells.work.now l.witness) l.held l.ahead l.position)
+    (prices_from (row_of l.cells.work.now l.member) l.held l.ahead l.position) l.held l.ahead l.position
+    l.price l.n l.sum

@@ -1,13 +1,14 @@
--- `search::clear` meets its contract: the laws of its loop.
-use Rattle.std.proofs.Common.{arith}
-use Rattle.search.proofs.Clearing.{clears-none, clears-turn, clears-done}
+-- `search::clear` meets its contract.
+use mathlib.Core.Path.{ap, ◌∙◌}
+use Rattle.std.proofs.Common.{◌++◌, drop, replicate, rules}
+use Rattle.std.proofs.lemmas.List.{length-take-le}
+use Rattle.schedule.specs.Buffers.{cleared}
+use Rattle.schedule.specs.Limits.{work_length}
 use Rattle.search.proofs.clear.Goals as goal
 
-pub loop-k-init : goal.loop-k-init
-loop-k-init c = clears-none _
-
-pub loop-k-preserved : goal.loop-k-preserved
-loop-k-preserved c = clears-turn c.loop-k.invariant (omega arith) c.requires
-
 pub returns : goal.returns
-returns c = clears-done c.loop-k.invariant (omega arith)
+unfolding cleared
+returns c =
+    ap (λ front. front ++ drop work_length c.args.work.now)
+    (c.fill.ensures.after (λ y same. search rules)
+    ∙ ap (λ n. replicate n 0) (length-take-le work_length c.args.work.now c.requires))

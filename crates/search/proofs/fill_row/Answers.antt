@@ -11,7 +11,7 @@ use Rattle.rules.proofs.Entries.{one-is, two_is}
 use Rattle.cells.specs.inside.Cells.{until_cell}
 use Rattle.rows.specs.inside.Rows.{RowReady, Filled}
 use Rattle.search.specs.inside.Filling.{Limited}
-use Rattle.search.proofs.Driven.{Measured, height-small, lap-small, parts-of, atom-ready, row-ready}
+use Rattle.search.proofs.Driven.{Measured, parts-of, row-ready}
 use Rattle.search.proofs.Driven.{start_small, until-fits, atom-driven, broken-driven, not-driven}
 use Rattle.search.proofs.Driven.{or-driven, and-driven, since-driven, until-driven}
 use Rattle.search.proofs.fill_row.Goals as goal
@@ -26,6 +26,10 @@ measured lim e = record { limits = lim; high = e }
 read : {told at x : Entry} → told ≡ at → told ≡ x → at ≡ x
 read e is = sym e ∙ is
 
+-- and one of two parts, its operator too
+two : {told at : Entry} {x op : Binary} {l r : ℕ} → told ≡ at → told ≡ Two x l r → x ≡ op → at ≡ Two op l r
+two e is same = two_is (read e is) same
+
 -- an entry of two parts
 ready : {prefix loop table : List ℕ} {e len reach h : ℕ} → Measured prefix loop table e len reach h
     → {op : Binary} {l r : ℕ} → entry_at table e ≡ Two op l r
@@ -38,89 +42,91 @@ started : {e n : ℕ} {found left : List ℕ} (v : ℕ) (a b : ℕ → ℕ) {s t
 started {e} {n} {found} {left} v a b same f =
     subst (λ k. Filled e n (until_cell a b n v k) found left) same f
 
-pub overflow_sub-cols : goal.overflow_sub-cols
-overflow_sub-cols c = height-small (measured c.requires.0 (search rules))
-
-pub overflow_mul-cols : goal.overflow_mul-cols
-overflow_mul-cols c = omega (arith, lap-small (measured c.requires.0 c.height.ensures))
-
-pub overflow_add-cols : goal.overflow_add-cols
-overflow_add-cols c = omega (arith, lap-small (measured c.requires.0 c.height.ensures))
-
-pub atom_row-requires : goal.atom_row-requires
-atom_row-requires c = atom-ready (measured c.requires.0 c.height.ensures)
-
-pub plain_row-requires : goal.plain_row-requires
-plain_row-requires c =
+pub plain_row-requires-whole : goal.plain_row-requires-whole
+plain_row-requires-whole c =
     let m = measured c.requires.0 c.height.ensures in
-    let part = parts-of m (One _ _) (read c.entry_at.ensures c.in-One.is) in
-    row-ready m _ _ part part
+    let part = parts-of m (One _ _) (read c.entry_at.ensures c.in-One-Not-default.is) in
+    let fits = row-ready m _ _ part part in
+    search rules
 
-pub plain_row-requires-in-Or : goal.plain_row-requires-in-Or
-plain_row-requires-in-Or c =
-    ready (measured c.requires.0 c.height.ensures) (read c.entry_at.ensures c.in-Two.is)
+pub plain_row-requires-in-Two-Or-default-default-whole :
+    goal.plain_row-requires-in-Two-Or-default-default-whole
+plain_row-requires-in-Two-Or-default-default-whole c =
+    let arm = c.in-Two-Or-default-default in
+    let fits = ready (measured c.requires.0 c.height.ensures) (read c.entry_at.ensures arm.is) in
+    search rules
 
-pub plain_row-requires-in-And : goal.plain_row-requires-in-And
-plain_row-requires-in-And c =
-    ready (measured c.requires.0 c.height.ensures) (read c.entry_at.ensures c.in-Two.is)
+pub plain_row-requires-in-Two-And-default-default-whole :
+    goal.plain_row-requires-in-Two-And-default-default-whole
+plain_row-requires-in-Two-And-default-default-whole c =
+    let arm = c.in-Two-And-default-default in
+    let fits = ready (measured c.requires.0 c.height.ensures) (read c.entry_at.ensures arm.is) in
+    search rules
 
 pub since_row-requires : goal.since_row-requires
 since_row-requires c =
-    ready (measured c.requires.0 c.height.ensures) (read c.entry_at.ensures c.in-Two.is)
+    ready (measured c.requires.0 c.height.ensures) (read c.entry_at.ensures c.in-Two-Since-default-default.is)
 
 pub overflow_mul-start : goal.overflow_mul-start
-overflow_mul-start c = omega (
-  arith,
-  start_small (measured c.requires.0 c.height.ensures) _ _
-      (two_is (read c.entry_at.ensures c.in-Two.is) c.in-Until.is) _ c.height-in-Until.ensures,
-)
+overflow_mul-start c =
+    let arm = c.in-Two-Until-default-default in
+    let at = two c.entry_at.ensures arm.is arm.field-0-is in
+    let past = c.height-in-Two-Until-default-default.ensures in
+    omega (arith, start_small (measured c.requires.0 c.height.ensures) _ _ at _ past)
 
 pub overflow_add-start : goal.overflow_add-start
-overflow_add-start c = omega (
-  arith,
-  start_small (measured c.requires.0 c.height.ensures) _ _
-      (two_is (read c.entry_at.ensures c.in-Two.is) c.in-Until.is) _ c.height-in-Until.ensures,
-  c.requires.0.letters,
-)
+overflow_add-start c =
+    let arm = c.in-Two-Until-default-default in
+    let at = two c.entry_at.ensures arm.is arm.field-0-is in
+    let past = c.height-in-Two-Until-default-default.ensures in
+    omega (
+      arith,
+      start_small (measured c.requires.0 c.height.ensures) _ _ at _ past,
+      c.requires.0.letters,
+    )
 
 pub until_row-requires : goal.until_row-requires
 until_row-requires c =
-    let fits = until-fits (measured c.requires.0 c.height.ensures) _ _
-    (two_is (read c.entry_at.ensures c.in-Two.is) c.in-Until.is) _ c.height-in-Until.ensures in
+    let arm = c.in-Two-Until-default-default in
+    let at = two c.entry_at.ensures arm.is arm.field-0-is in
+    let past = c.height-in-Two-Until-default-default.ensures in
+    let fits = until-fits (measured c.requires.0 c.height.ensures) _ _ at _ past in
     (fits.0, fits.1, fits.2, omega (arith, fits.3))
-
-pub atom_row-requires-in-Broken : goal.atom_row-requires-in-Broken
-atom_row-requires-in-Broken c = atom-ready (measured c.requires.0 c.height.ensures)
 
 pub returns-in-Atom : goal.returns-in-Atom
 returns-in-Atom c =
     atom-driven (measured c.requires.0 c.height.ensures) refl c.requires.1 _
     (read c.entry_at.ensures c.in-Atom.is) c.atom_row.ensures
 
-pub returns-in-One : goal.returns-in-One
-returns-in-One c =
+pub returns-in-One-Not-default : goal.returns-in-One-Not-default
+returns-in-One-Not-default c =
     not-driven (measured c.requires.0 c.height.ensures) refl c.requires.1 _
-    (one-is (read c.entry_at.ensures c.in-One.is)) c.plain_row.ensures
+    (one-is (read c.entry_at.ensures c.in-One-Not-default.is)) c.plain_row.ensures
 
-pub returns-in-Or : goal.returns-in-Or
-returns-in-Or c =
+pub returns-in-Two-Or-default-default : goal.returns-in-Two-Or-default-default
+returns-in-Two-Or-default-default c =
+    let arm = c.in-Two-Or-default-default in
     or-driven (measured c.requires.0 c.height.ensures) refl c.requires.1 _ _
-    (two_is (read c.entry_at.ensures c.in-Two.is) c.in-Or.is) c.plain_row-in-Or.ensures
+    (two c.entry_at.ensures arm.is arm.field-0-is) c.plain_row-in-Two-Or-default-default.ensures
 
-pub returns-in-And : goal.returns-in-And
-returns-in-And c =
+pub returns-in-Two-And-default-default : goal.returns-in-Two-And-default-default
+returns-in-Two-And-default-default c =
+    let arm = c.in-Two-And-default-default in
     and-driven (measured c.requires.0 c.height.ensures) refl c.requires.1 _ _
-    (two_is (read c.entry_at.ensures c.in-Two.is) c.in-And.is) c.plain_row-in-And.ensures
+    (two c.entry_at.ensures arm.is arm.field-0-is) c.plain_row-in-Two-And-default-default.ensures
 
-pub returns-in-Since : goal.returns-in-Since
-returns-in-Since c =
+pub returns-in-Two-Since-default-default : goal.returns-in-Two-Since-default-default
+returns-in-Two-Since-default-default c =
+    let arm = c.in-Two-Since-default-default in
     since-driven (measured c.requires.0 c.height.ensures) refl c.requires.1 _ _
-    (two_is (read c.entry_at.ensures c.in-Two.is) c.in-Since.is) c.since_row.ensures
+    (two c.entry_at.ensures arm.is arm.field-0-is) c.since_row.ensures
 
-pub returns-in-Until : goal.returns-in-Until
-returns-in-Until c =
-    until-driven (measured c.requires.0 c.height.ensures) refl c.requires.1 _ _ _ c.height-in-Until.ensures
-    (two_is (read c.entry_at.ensures c.in-Two.is) c.in-Until.is)
+pub returns-in-Two-Until-default-default : goal.returns-in-Two-Until-default-default
+returns-in-Two-Until-default-default c =
+    let arm = c.in-Two-Until-default-default in
+    let at = two c.entry_at.ensures arm.is arm.field-0-is in
+    let past = c.height-in-Two-Until-default-default.ensures in
+    until-driven (measured c.requires.0 c.height.ensures) refl c.requires.1 _ _ _ past at
     (started _ _ _ (omega arith) c.until_row.ensures)
 
 pub returns-in-Broken : goal.returns-in-Broken

@@ -1,6 +1,6 @@
 -- What the valid trees of a claim cost, and the least number of a set, cut off.
 use Rattle.std.specs.Prelude.{ℕ, ◌+◌, ◌<◌, ◌≤◌, min, ◌≡◌, List}
-use Rattle.trees.specs.Nodes.{Node}
+use Rattle.trees.specs.declared.Node.{Node}
 use Rattle.trees.specs.Rules.{Frame, Claim}
 use Rattle.trees.specs.Trees.{Tree, Forest}
 use Rattle.trees.specs.Least.{Cost, cost_of}

@@ -1,6 +1,6 @@
 -- The least trees of a list of claims, one after the other.
 use Rattle.std.specs.Prelude.{ℕ, ◌+◌, List, [], ◌∷◌, ◌++◌}
-use Rattle.trees.specs.Nodes.{Node}
+use Rattle.trees.specs.declared.Node.{Node}
 use Rattle.trees.specs.Rules.{Frame, Claim, claim}
 use Rattle.trees.specs.Trees.{Tree}
 use Rattle.trees.specs.Least.{Cost, AtOrBefore}

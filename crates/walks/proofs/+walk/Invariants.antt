@@ -1,10 +1,10 @@
--- The walk's measure is the entry's index. The loop's invariant: what stands between the node and the present
--- place is a forest for the claims of the parts passed.
-use Rattle.std.proofs.Common.{◌-◌, ◌≤◌, map}
+-- The walk's measure is the entry's index. The loop's invariant: what the node asks of its parts, and that
+-- what
+-- stands between it and the present place is a forest for the claims of the parts passed.
+use Rattle.std.proofs.Common.{map}
 use Rattle.trees.specs.Nodes.{node_of}
-use Rattle.trees.specs.Frames.{schedule_frame}
-use Rattle.nodes.specs.inside.Demands.{claims_of}
-use Rattle.walks.proofs.Walked.{PassedParts}
+use Rattle.trees.specs.inside.Lent.{frame_of}
+use Rattle.walks.proofs.Standing.{Standing}
 use Rattle.walks.proofs.+walk.Given as goal
 
 abbrev pub decreases-walk : goal.decreases-walk
@@ -12,9 +12,5 @@ decreases-walk l = l.entry
 
 abbrev pub invariant-loop-m : goal.invariant-loop-m
 invariant-loop-m l =
-    PassedParts (schedule_frame l.prefix l.looped) (map node_of l.tree) l.place (claims_of l.table l.demands)
-    l.next l.m
-    × (l.m ≤ l.parts)
-
-abbrev pub decreases-loop-m : goal.decreases-loop-m
-decreases-loop-m l = l.parts - l.m
+    Standing (frame_of l.letters) l.table l.entry l.fn.position l.fn.needed (map node_of l.tree) l.place
+    l.demands l.next l.m

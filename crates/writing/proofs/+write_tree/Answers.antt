@@ -7,15 +7,15 @@ use lib.ListN.{length, length-set}
 use lib.Seq.{get_or-set_same}
 use Rattle.std.proofs.Common.{arith, rules}
 use Rattle.rules.specs.Tables.{formula_of}
-use Rattle.trees.specs.Nodes.{Node, node_of}
+use Rattle.trees.specs.Nodes.{node_of}
+use Rattle.trees.specs.declared.Node.{Node}
 use Rattle.trees.specs.Rules.{claim}
-use Rattle.trees.specs.Frames.{schedule_frame}
+use Rattle.trees.specs.inside.Lent.{frame_of}
 use Rattle.nodes.specs.declared.Demands.{Demands}
 use Rattle.nodes.proofs.Claims.{claims-length}
 use Rattle.trees.specs.Least.{ones, Least}
 use Rattle.theory.proofs.Horizon.{ones-atoms}
 use Rattle.writing.specs.inside.Writes.{Writable, Room}
-use Rattle.roots.specs.inside.Rooted.{root_node}
 use Rattle.writing.proofs.Underway.{underway-none, underway-more, underway-done}
 use Rattle.writing.proofs.Planned.{Planned, leaf-writes, countable, planned, part-is, part-near}
 use Rattle.writing.proofs.Planned.{part-writable}
@@ -39,19 +39,19 @@ overflow_add-result t c = omega (arith, c.requires.1.room _ c.lead-root.ensures.
 
 pub returns-then-root-lt3 : goal.returns-then-root-lt3
 returns-then-root-lt3 t c =
-    leaf-writes ones-atoms c.requires.0 (root_node c.lead-root.result) c.lead-root.ensures.leads c.word.result
+    leaf-writes ones-atoms c.requires.0 c.lead-root.result c.lead-root.ensures.leads c.word.result
     c.args.place c.args.tree.now c.word.ensures c.requires.1 c.if-root-lt3.true
 
 pub demands_of-demands-requires : goal.demands_of-demands-requires
 demands_of-demands-requires t c = (
   c.if-root-lt3.false,
-  countable ones-atoms c.requires.0 (root_node c.lead-root.result) c.lead-root.ensures.leads
+  countable ones-atoms c.requires.0 c.lead-root.result c.lead-root.ensures.leads
       c.if-root-lt3.false c.lead-root.ensures.number_fits,
 )
 
-pub overflow_add-parts : goal.overflow_add-parts
-overflow_add-parts t c =
-    let p = planned ones-atoms c.requires.0 (root_node c.lead-root.result) c.lead-root.ensures.leads
+pub overflow_add-m-end : goal.overflow_add-m-end
+overflow_add-m-end t c =
+    let p = planned ones-atoms c.requires.0 c.lead-root.result c.lead-root.ensures.leads
     c.if-root-lt3.false c.lead-root.ensures.number_fits c.entry_at-here.ensures c.proven.ensures
     c.demands_of-demands.ensures in
     omega (arith, few p, p.earlier.one)
@@ -61,61 +61,58 @@ overflow_add-next t c = omega (arith, c.requires.1.room _ c.lead-root.ensures.le
 
 pub loop-m-init : goal.loop-m-init
 loop-m-init t c =
-    let p = planned ones-atoms c.requires.0 (root_node c.lead-root.result) c.lead-root.ensures.leads
+    let p = planned ones-atoms c.requires.0 c.lead-root.result c.lead-root.ensures.leads
     c.if-root-lt3.false c.lead-root.ensures.number_fits c.entry_at-here.ensures c.proven.ensures
     c.demands_of-demands.ensures in
     let a = c.args in
     let w = c.word.result in
-    let there = c.requires.1.room _ p.least in (
-      record {
-        root = root_node c.lead-root.result;
-        rooted = ap node_of (get_or-set_same a.tree.now a.place w 0 (omega (arith, there))) ∙ c.word.ensures;
-        plan = p;
-        passed = underway-none (a.place + 1) _ (omega (arith, there, length-set a.tree.now a.place w))
-            p.parts;
-      },
-      omega arith,
-    )
+    let there = c.requires.1.room _ p.least in
+    record {
+      root = c.lead-root.result;
+      rooted = ap node_of (get_or-set_same a.tree.now a.place w 0 (omega (arith, there))) ∙ c.word.ensures;
+      plan = p;
+      passed = underway-none (a.place + 1) _ (omega (arith, there, length-set a.tree.now a.place w))
+          p.parts;
+    }
 
 pub write_tree-next-requires : goal.write_tree-next-requires
 write_tree-next-requires t c =
     let a = c.args in
-    let b = c.loop-m.invariant.0 in
+    let b = c.loop-m.invariant in
     let taken : c.loop-m.m < c.demands_of-demands.result.fixed + c.demands_of-demands.result.count = omega
     arith in
     let part = c.part_at-part.ensures in
     let own = claim (formula_of a.table.now a.entry) a.position c.demands_of-demands.result.verdict in (
       omega (arith, ap (λ p. p.entry) part, part-near ones-atoms b.plan b.passed taken own),
-      subst (λ p. Writable ones a.prefix.now a.looped.now a.table.now p.entry p.position a.work.now
-          × Room ones (schedule_frame a.prefix.now a.looped.now) (formula_of a.table.now p.entry) p.position
-          c.loop-m.next (length c.loop-m.tree))
+      subst (λ p. Writable ones a.letters.now.prefix.now a.letters.now.looped.now a.table.now p.entry
+          p.position a.work.now
+          × Room ones (frame_of a.letters.now) (formula_of a.table.now p.entry) p.position c.loop-m.next
+          (length c.loop-m.tree))
           (sym part) (part-writable ones-atoms b.plan b.passed taken own),
     )
 
 pub loop-m-preserved : goal.loop-m-preserved
 loop-m-preserved t c =
     let a = c.args in
-    let b = c.loop-m.invariant.0 in
+    let b = c.loop-m.invariant in
     let taken : c.loop-m.m < c.demands_of-demands.result.fixed + c.demands_of-demands.result.count = omega
     arith in
     let d = c.demands_of-demands.result in
     let own = claim (formula_of a.table.now a.entry) a.position d.verdict in
     let same = ap (λ p. claim (formula_of a.table.now p.entry) p.position d.verdict) c.part_at-part.ensures
-    ∙ sym (part-is ones-atoms b.plan b.passed taken own) in (
-      record {
-        root = b.root;
-        rooted = b.rooted;
-        plan = b.plan;
-        passed = underway-more b.passed own (omega (arith, claims-length a.table.now d, taken)) _ same
-            c.write_tree-next.ensures;
-      },
-      omega (arith, taken),
-    )
+    ∙ sym (part-is ones-atoms b.plan b.passed taken own) in
+    record {
+      root = b.root;
+      rooted = b.rooted;
+      plan = b.plan;
+      passed = underway-more b.passed own (omega (arith, claims-length a.table.now d, taken)) _ same
+          c.write_tree-next.ensures;
+    }
 
 pub returns : goal.returns
 returns t c =
     let a = c.args in
-    let b = c.loop-m.invariant.0 in
+    let b = c.loop-m.invariant in
     let w = c.word.result in
     let there = c.requires.1.room _ c.lead-root.ensures.leads.least in
     let is : node_of w ≡ b.root
@@ -123,6 +120,6 @@ returns t c =
     underway-done b.passed
     (omega (arith, claims-length a.table.now c.demands_of-demands.result, c.loop-m-test.false)) a.place w
     a.tree.now refl refl
-    (subst (λ y. Least ones (schedule_frame a.prefix.now a.looped.now)
+    (subst (λ y. Least ones (frame_of a.letters.now)
     (formula_of a.table.now a.entry) a.position (y ∷ b.plan.below))
     (sym is) b.plan.least)

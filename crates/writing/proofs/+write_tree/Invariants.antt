@@ -1,6 +1,5 @@
 -- `writing::write_tree`: the entry's index falls at each call; the loop's invariant, that behind the root
 -- stand the least trees of the parts passed.
-use Rattle.std.proofs.Common.{◌-◌, ◌≤◌}
 use Rattle.writing.proofs.Behind.{StandsBehind}
 use Rattle.writing.proofs.+write_tree.Given as goal
 
@@ -9,9 +8,5 @@ decreases-write_tree l = l.entry
 
 abbrev pub invariant-loop-m : goal.invariant-loop-m
 invariant-loop-m l =
-    StandsBehind l.prefix l.looped l.table l.entry l.position l.place l.work l.demands l.initial.tree l.tree
-    l.next l.m
-    × (l.m ≤ l.parts)
-
-abbrev pub decreases-loop-m : goal.decreases-loop-m
-decreases-loop-m l = l.parts - l.m
+    StandsBehind l.letters.prefix.now l.letters.looped.now l.table l.entry l.position l.place l.work l.demands
+    l.initial.tree l.tree l.next l.m

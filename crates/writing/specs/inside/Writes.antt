@@ -3,7 +3,8 @@
 use Rattle.std.specs.Prelude.{ℕ, suc, ◌+◌, ◌<◌, ◌≤◌, ◌≡◌, List, ◌∷◌, map, length}
 use Rattle.rules.specs.Formula.{Formula}
 use Rattle.rules.specs.Tables.{formula_of}
-use Rattle.trees.specs.Nodes.{Node, node_of}
+use Rattle.trees.specs.Nodes.{node_of}
+use Rattle.trees.specs.declared.Node.{Node}
 use Rattle.trees.specs.Rules.{Frame}
 use Rattle.trees.specs.Frames.{schedule_frame}
 use Rattle.trees.specs.Least.{Cost, cost_of, Least}
@@ -11,8 +12,7 @@ use Rattle.theory.specs.inside.Cols.{cols}
 use Rattle.theory.specs.inside.Costs.{cut_off}
 use Rattle.rows.specs.inside.Rows.{row_of}
 use Rattle.search.specs.inside.Filling.{FilledBelow, Limited}
-use Rattle.roots.specs.declared.Root.{Root}
-use Rattle.roots.specs.inside.Rooted.{cell_price, root_node}
+use Rattle.roots.specs.inside.Rooted.{cell_price}
 use Rattle.schedule.specs.Buffers.{put}
 
 -- The rows up to the entry are filled for some reach, the position lies in its row,
@@ -35,8 +35,8 @@ pub record RootOfLeast (cost : Cost) (frame : Frame) (f : Formula) (i price : �
   pub priced : cost_of cost (x ∷ below) ≡ price
 
 -- So is a root that was found, and its fields fit a word.
-pub record Rooted (cost : Cost) (frame : Frame) (f : Formula) (i price : ℕ) (r : Root) : Type 0 where
-  pub leads : RootOfLeast cost frame f i price (root_node r)
+pub record Rooted (cost : Cost) (frame : Frame) (f : Formula) (i price : ℕ) (r : Node) : Type 0 where
+  pub leads : RootOfLeast cost frame f i price r
   pub rule_fits : r.rule < 256
   pub atom-fits : r.atom < 256
   pub number_fits : r.number < 65536

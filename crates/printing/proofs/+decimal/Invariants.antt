@@ -1,5 +1,0 @@
--- The number falls at each call of `printing::decimal` by itself.
-use Rattle.printing.proofs.+decimal.Given as goal
-
-abbrev pub decreases-decimal : goal.decreases-decimal
-decreases-decimal l = l.n
