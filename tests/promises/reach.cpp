@@ -172,7 +172,7 @@ struct repository {
             std::smatch m;
             if (!std::regex_match(l->text, m, form)) continue;
             const std::string kind = m[1], name = m[2];
-            items[owner + name].push_back(path);
+            items[name].push_back(path);
             if (kind == "struct" || kind == "enum") types.insert(path + ":" + name);
             for (auto v = l + 1; kind == "enum" && v != all.end() && v->indent > l->indent; ++v)
                 if (const names words = words_of(v->text); v->indent == l->indent + 4 && !words.empty())

@@ -1,7 +1,7 @@
 // A question put to its tests, in one order for all entry points; every answer, and its figures.
 #![tactic(auto)]
 
-ghost use Rattle.std.specs.Prelude.{◌≡◌};
+ghost use Rattle.std.specs.Prelude.{◌≡◌, Err};
 ghost use Rattle.schedule.specs.Lengths.{made_figures};
 ghost use Rattle.schedule.specs.Tests.{AllPass};
 ghost use Rattle.asking.specs.Answers.{number_of, place_of, refused, figures_of, answer_of};
@@ -126,7 +126,7 @@ fn accept_length(work: usize) -> Result<(), Refusal>
 }
 
 impl From<LengthError> for Refusal {
-    ghost from_gives = { λ error refusal. refused refusal ≡ made_figures error };
+    ghost from_gives = { λ error refusal. refused refusal ≡ made_figures (Err error) };
 
     fn from(error: LengthError) -> Refusal {
         match error {

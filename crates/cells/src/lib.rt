@@ -39,6 +39,14 @@ impl Model for State {
     ghost invariant = { λ x. (x.pro ≤ cut_off) × (x.con ≤ cut_off) };
 }
 
+// The kinds whose cells come from their parts' cells at the same position.
+#[derive(Clone, Copy)]
+pub enum Connective {
+    Not,
+    Or,
+    And,
+}
+
 #[tactic(auto, unfolding(crate::specs::inside::Cells::holds_in))]
 pub fn holds(cell: u16) -> bool
     ensures { result ≡ holds_in cell }
@@ -102,17 +110,18 @@ impl State {
         }
     }
 
-    // The next state along a since or an until: a witness here, or the one before with a member more.
+    // The next state along a since or an until: a witness here, or the one before with a member more. (What
+    // does not wait for the state before is cut first.)
     #[tactic(auto, unfolding(crate::specs::inside::Cells::stepped))]
     pub fn step(self, left: u16, right: u16) -> State
         ensures { result ≡ stepped self left right }
     {
         State {
             holds: goes_on(self.holds, left, right),
-            pro: (1 + pro(right)).min(self.pro + pro(left)).min(CUT_OFF),
+            pro: (1 + pro(right)).min(CUT_OFF).min(self.pro + pro(left)),
             con: (1 + con(left) + con(right))
-                .min(self.con + con(right))
-                .min(CUT_OFF),
+                .min(CUT_OFF)
+                .min(self.con + con(right)),
         }
     }
 

@@ -72,7 +72,7 @@ module _ (q : Question) (words : List ℕ) (passed : AllPass (question_tests q))
           (subst (Breaks (frame_in q) (claim_in q v ∷ []) nodes)
           (add-zero (length (take k nodes)) ∙ length-take-le k nodes w.1) whole)
 
-      pub judged-tree : (k : ℕ) → Walks (frame_in q) (claim_in q v) nodes 0 (Ok k) → k ≡ length words
+      pub judged-tree : (k : ℕ) → Walks (frame_in q) (claim_in q v) nodes 0 (Ok k) → length words ≤ k
           → Checked q words (verdict_with v 0)
       judged-tree k w all =
           judged-words few

@@ -45,7 +45,7 @@ pub fn check(question: LentQuestion<'_>, tree: &[u32]) -> Outcome
     ensures { Checked (question_of question.entry) tree.now (figures_of result) }
 {
     question.accept()?;
-    let record = Table::new(question.table);
+    let record = Table::holding(question.table);
     let table = record.entries();
     let question = LentQuestion { table, ..question };
     judge(Passed { question }, tree)

@@ -3,7 +3,7 @@
 use mathlib.Core.Path.{◌≡◌, sym, ap, subst, ◌∙◌}
 use mathlib.Core.Logic.{⊎_elim}
 use mathlib.Core.List.{List, [], ◌∷◌, ◌++◌, head-eq_of_cons-eq, tail-eq_of_cons-eq, cons-ne-nil}
-use Prim.Native.Nat.{ℕ, suc, ◌+◌, ◌*◌, ◌<◌, ◌≤◌}
+use Prim.Native.Nat.{ℕ, suc, ◌+◌, ◌-◌, ◌*◌, ◌<◌, ◌≤◌}
 use native.Mathlib.Numerals.{add-one}
 use native.Mathlib.Omega.{arith}
 use lib.ListN.{length, get_or, drop, take}
@@ -83,6 +83,14 @@ module _ {text : List ℕ} {at max : ℕ} where
           (ap (λ b. b ∷ []) (sym f.byte) ∙ sym (slice-one text at f.within)) (digit f.small);
       small = le;
     })
+
+    pub read-first-large : max < d → Numbered text at max None
+    read-first-large large =
+        let byte = f.byte in
+        wrong-past (at + 1) (get_or text at 0 ∷ []) (omega arith) (omega (arith, f.within))
+        (slice-one text at f.within)
+        (omega (arith, f.small), omega (arith, f.small), tt)
+        (λ ms m p le. omega (arith, decimal-value p, value_grows (0 * 10 + (get_or text at 0 - 48)) ms))
 
   module _ {next n d : ℕ} (r : Reading text at max next n) (f : DigitAt text next d) where
     longer-part : slice at (next + 1) text ≡ slice at next text ++ (48 + d) ∷ []

@@ -16,7 +16,8 @@ pub struct Numeral {
     pub next: usize,
 }
 
-// The figure that a byte stands for, if it is a digit.
+// The figure that a byte stands for, if it is a digit. (Inlined, as what calls it.)
+#[inline(always)]
 fn figure(byte: u8) -> Option<u32>
     ensures { Figure byte result }
 {
@@ -28,7 +29,8 @@ fn figure(byte: u8) -> Option<u32>
 
 // The number that stands at a text's beginning, up to the first byte that is no digit, if it is at most max.
 // (What does not fit its 32 bits is above max. By hand, since `parse` takes a sign and leading zeros, and
-// does not say where a number ends.)
+// does not say where a number ends. Inlined, so that each caller has its own maximum in it.)
+#[inline(always)]
 pub fn number(text: &[u8], max: u32) -> Option<Numeral>
     ensures { Numbered text.now 0 max result }
 {

@@ -28,9 +28,14 @@ pub fn height(table: &[u32], entry: usize, side: Side) -> usize
     match entry_at(table, entry) {
         Entry::Atom(_) | Entry::Broken => 0,
         Entry::One(_, part) => height(table, part, side),
-        Entry::Two(op, left, right) if left == right => height(table, left, side) + adds(op, side),
         Entry::Two(op, left, right) => {
-            height(table, left, side).max(height(table, right, side)) + adds(op, side)
+            let added = adds(op, side); // before the parts are followed: no level keeps the operator
+            let higher = height(table, left, side);
+            if left == right {
+                higher + added
+            } else {
+                higher.max(height(table, right, side)) + added
+            }
         }
     }
 }

@@ -1,12 +1,13 @@
 -- Numbers with commas, read one by one: what is known behind some of them,
 -- and the laws of a turn and of the returns.
-use mathlib.Core.Path.{◌≡◌, refl, sym, ap, subst, ◌∙◌}
+use mathlib.Core.Path.{◌≡◌, refl, sym, ap, ap₂, subst, ◌∙◌}
 use mathlib.Core.Logic.{inl, ⊎_elim}
 use mathlib.Core.List.{List, [], ◌∷◌, ◌++◌, head-eq_of_cons-eq, tail-eq_of_cons-eq, append_assoc}
 use Prim.Native.Nat.{ℕ, ◌+◌, ◌-◌, ◌<◌, ◌≤◌}
+use native.Mathlib.Numerals.{add-one}
 use native.Mathlib.Omega.{arith}
 use lib.ListN.{take, length, get_or, drop, set, length-append, length-drop}
-use lib.Seq.{slice, drop-drop, drop-append_seam, take_all}
+use lib.Seq.{slice, drop-cons, drop-drop, drop-append_seam, take_all}
 use Rattle.decimals.specs.inside.Numbers.{NoDigit, Stands, Numbered}
 use Rattle.std.specs.Prelude.{Some, None}
 use Rattle.decimals.specs.declared.Numeral.{Numeral}
@@ -104,6 +105,16 @@ part text at = take (length text - at) (drop at text)
 
 part_all : (text : List ℕ) (at : ℕ) → part text at ≡ drop at text
 part_all text at = take_all (length text - at) (drop at text) (omega (arith, length-drop at text))
+
+pub part-none : (text : List ℕ) (at : ℕ) → length text ≤ at → length (part text at) ≡ 0
+part-none text at le = omega (arith, ap length (part_all text at), length-drop at text, le)
+
+pub part-more : (text : List ℕ) (at b : ℕ) → at < length text → b ≡ get_or text at 0
+    → part text at ≡ b ∷ part text (at + 1)
+part-more text at b lt is =
+    part_all text at ∙ drop-cons text at 0 lt
+    ∙ ap₂ (λ c l. c ∷ l) (sym is)
+    (ap (λ k. drop k text) (sym (add-one at)) ∙ sym (part_all text (at + 1)))
 
 module _ {max : ℕ} {text found : List ℕ} where
   pub go-none : Going max text found text 0 found

@@ -1,4 +1,5 @@
-// Lists of numbers in a text: a keyword, numbers with commas, a newline.
+// Lists of numbers in a text: a keyword, numbers with commas, a newline. What reads a line is inlined: a text
+// is read line by line, and each line has its own keyword and maximum.
 #![tactic(auto)]
 
 ghost use Rattle.std.specs.Prelude.{◌≡◌, set};
@@ -26,6 +27,7 @@ pub fn store(keep: &mut [u32], at: usize, n: u32)
 
 // Numbers with commas, up to the end of the line.
 // (The count is half of the answer: numbers past the buffer's end are counted too.)
+#[inline(always)]
 fn commas<'a>(text: &'a [u8], max: u32, keep: &mut [u32]) -> Option<Listing<'a>>
     ensures { Lists (Commas max) text.now keep.old keep.new result }
 {
@@ -33,10 +35,11 @@ fn commas<'a>(text: &'a [u8], max: u32, keep: &mut [u32]) -> Option<Listing<'a>>
     let mut count = 0;
     loop {
         let numeral = number(left, max)?;
-        let (end, rest) = left[numeral.next..].split_first()?;
+        let end = *left.get(numeral.next)?;
         store(keep, count, numeral.value);
         count += 1;
-        match *end {
+        let rest = &left[numeral.next + 1..];
+        match end {
             NEWLINE => return Some(Listing { count, rest }),
             COMMA => left = rest,
             _ => return None,
@@ -45,6 +48,7 @@ fn commas<'a>(text: &'a [u8], max: u32, keep: &mut [u32]) -> Option<Listing<'a>>
 }
 
 // A line of a keyword and numbers.
+#[inline(always)]
 pub fn fields<'a>(text: &'a [u8], word: &[u8], max: u32, keep: &mut [u32]) -> Option<Listing<'a>>
     ensures { Lists (Worded word.now (Commas max)) text.now
         keep.old keep.new result }
@@ -53,6 +57,7 @@ pub fn fields<'a>(text: &'a [u8], word: &[u8], max: u32, keep: &mut [u32]) -> Op
 }
 
 // A line of a keyword and letters, perhaps none.
+#[inline(always)]
 pub fn letters<'a>(text: &'a [u8], word: &[u8], keep: &mut [u32]) -> Option<Listing<'a>>
     ensures { Lists (Worded word.now Letters) text.now keep.old
         keep.new result }

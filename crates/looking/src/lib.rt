@@ -48,7 +48,7 @@ pub fn look_up(question: LentQuestion<'_>, work: &mut [u16]) -> Result<u16, Refu
     ensures { Looked (question_of question.entry) work.old work.new result }
 {
     question.accept_work(work.len())?;
-    let record = Table::new(question.table);
+    let record = Table::holding(question.table);
     let table = record.entries();
     let question = LentQuestion { table, ..question };
     Ok(look_words(Passed { question }, work))

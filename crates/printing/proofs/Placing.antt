@@ -105,12 +105,13 @@ pub text-ends : {text : List ℕ} {before after : Writer} → Puts (λ bs. bs �
     → after.at ≡ before.at + length text
 text-ends p = omega (arith, p.placed.ends, ap length p.placed.such)
 
--- What stands before the last digit: nothing, or the digits of the tenth.
-pub data Begun (n : ℕ) (before between : Writer) : Type 0 where
-  one_digit : n ≤ 9 → between ≡ before → Begun n before between
-  more_digits : 9 < n → Puts (λ ds. Decimal ds (n / 10)) before between → Begun n before between
+pub digit-placed : (at n : ℕ) (found : List ℕ) → at + 10 ≤ length found → n < 10
+    → Placed (λ ds. Decimal ds n) at found (set found at (48 + n)) (at + 1)
+digit-placed at n found room lt =
+    placed-as (λ bs e. subst (λ l. Decimal l n) (sym e) (digit lt))
+    (placed_one at (48 + n) found (omega (arith, room)))
 
-longer-is : (n : ℕ) → 9 < n → (xs ys : List ℕ) → Decimal xs (n / 10) → ys ≡ (48 + n % 10) ∷ []
+longer-is : (n : ℕ) → 10 ≤ n → (xs ys : List ℕ) → Decimal xs (n / 10) → ys ≡ (48 + n % 10) ∷ []
     → Decimal (xs ++ ys) n
 longer-is n le xs ys d e =
     let whole : n / 10 * 10 + n % 10 ≡ n = omega arith in
@@ -118,30 +119,24 @@ longer-is n le xs ys d e =
     (subst (λ l. Decimal (xs ++ l) (n / 10 * 10 + n % 10)) (sym e)
     (longer d (omega (arith, le)) (omega arith)))
 
-module _ {n : ℕ} (small : n < 4294967296) {before between : Writer} where
-  -- No number of 32 bits has more than ten digits.
-  pub digits-most : Puts (λ ds. Decimal ds n) before between → between.at ≤ before.at + 10
-  digits-most p = omega (arith, p.placed.ends, decimal-length 9 p.placed.such (omega (arith, small)))
+module _ {at middle n : ℕ} {found between : List ℕ}
+    (p : Placed (λ ds. Decimal ds n) at found between middle) where
+  pub nine-digits : n < 1000000000 → middle ≤ at + 9
+  nine-digits lt = omega (arith, p.ends, decimal-length 8 p.such (omega (arith, lt)))
 
-  pub begun-room : Begun n before between → before.at + 10 ≤ length before.bytes.now
-      → between.at < length between.bytes.now
-  begun-room (one_digit le e) room = rw e (omega (arith, room))
-  begun-room (more_digits lt p) room =
-      omega (
-        arith,
-        room,
-        p.placed.ends,
-        decimal-length 8 p.placed.such (omega (arith, small)),
-        puts-length p,
-      )
+-- The digits before the last, and the last.
+pub longer-placed : (at n : ℕ) (found between : List ℕ) (middle : ℕ) → at + 10 ≤ length found → 10 ≤ n
+    → n < 4294967296 → Placed (λ ds. Decimal ds (n / 10)) at found between middle
+    → Placed (λ ds. Decimal ds n) at found (set between middle (48 + n % 10)) (middle + 1)
+longer-placed at n found between middle room le lt p =
+    placed-then (longer-is n le) p
+    (placed_one middle (48 + n % 10) between
+    (omega (arith, room, placed-length p, nine-digits p (omega (arith, lt)))))
 
-  pub digits-put : {after : Writer} → Begun n before between
-      → Puts (λ bs. bs ≡ (48 + n % 10) ∷ []) between after → Puts (λ ds. Decimal ds n) before after
-  digits-put {after} (one_digit le e) p =
-      let last : n % 10 ≡ n = omega (arith, le) in
-      puts-as (λ bs is. subst (λ l. Decimal l n) (sym (is ∙ ap (λ d. (48 + d) ∷ []) last))
-      (digit (omega (arith, le)))) (subst (λ o. Puts (λ bs. bs ≡ (48 + n % 10) ∷ []) o after) e p)
-  digits-put (more_digits lt p) q = puts-then (longer-is n lt) p q
+-- No number of 32 bits has more than ten digits.
+pub digits-most : {n : ℕ} → n < 4294967296 → {before between : Writer}
+    → Puts (λ ds. Decimal ds n) before between → between.at ≤ before.at + 10
+digits-most small p = omega (arith, p.placed.ends, decimal-length 9 p.placed.such (omega (arith, small)))
 
 -- A number and the byte that ends it.
 pub field-put : {n end : ℕ} {before between after : Writer} → Puts (λ ds. Decimal ds n) before between

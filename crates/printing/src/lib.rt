@@ -4,6 +4,7 @@
 ghost use Rattle.std.specs.Prelude.{◌≡◌, ◌+◌, ◌≤◌, ◌<◌, length, [], ◌∷◌};
 ghost use Rattle.decimals.specs.Decimals.{Decimal};
 ghost use Rattle.printing.specs.Fields.{Field, NumberLine};
+ghost use Rattle.printing.specs.Placed.{Placed};
 ghost use Rattle.printing.specs.inside.Puts.{Puts};
 
 use decimals::NEWLINE;
@@ -18,7 +19,7 @@ pub struct Writer<'a> {
 
 impl<'a> Writer<'a> {
     // Begins at the front of the lent bytes.
-    pub fn new(bytes: &'a mut [u8]) -> Writer<'a>
+    pub fn at_front(bytes: &'a mut [u8]) -> Writer<'a>
         ensures same { result.bytes.ghost_name ≡ bytes.entry.ghost_name }
         ensures bytes { result.bytes.now ≡ bytes.old }
         ensures at { result.at ≡ 0 }
@@ -45,16 +46,12 @@ impl<'a> Writer<'a> {
         self.at = end;
     }
 
-    // Writes a number's digits. It calls itself for the digits before the last.
-    // (By hand: `write!` may answer an error, and its contract does not say where it answers none.)
+    // Writes a number's digits.
     fn decimal(&mut self, n: u32)
         requires { self.old.at + 10 ≤ length self.old.bytes.now }
         ensures { Puts (λ ds. Decimal ds n) self.old self.new }
     {
-        if 9 < n {
-            self.decimal(n / 10);
-        }
-        self.byte(b'0' + (n % 10) as u8);
+        self.at = digits(self.bytes, self.at, n);
     }
 
     // Writes a number and the byte that ends it.
@@ -74,4 +71,20 @@ impl<'a> Writer<'a> {
         self.text(label);
         self.field(n, NEWLINE);
     }
+}
+
+// Writes a number's digits from a place on; answers the place behind them. It calls itself for the digits
+// before the last. (On bytes and a place, since a method that calls itself goes through the writer at each
+// digit. By hand: `write!` may answer an error, and its contract does not say where it answers none.)
+fn digits(bytes: &mut [u8], at: usize, n: u32) -> usize
+    requires { at + 10 ≤ length bytes.old }
+    ensures { Placed (λ ds. Decimal ds n) at bytes.old bytes.new result }
+{
+    if n < 10 {
+        bytes[at] = b'0' + n as u8;
+        return at + 1;
+    }
+    let next = digits(bytes, at, n / 10);
+    bytes[next] = b'0' + (n % 10) as u8;
+    next + 1
 }

@@ -37,7 +37,9 @@ struct Fields<'a, const N: usize> {
     rest: &'a [u8],
 }
 
-// A line of a keyword and N numbers.
+// A line of a keyword and N numbers. (A function of its own, so that the loops over letters have the
+// registers of read_text to themselves.)
+#[inline(never)]
 fn numbers<'a, const N: usize>(text: &'a [u8], word: &[u8], max: u32) -> Option<Fields<'a, N>>
     ensures { FieldsRead (Worded word.now (Commas max)) N text.now result }
 {

@@ -64,7 +64,7 @@ pub fn rendered(out: &mut [u8; MAX_OUTPUT], outcome: Outcome, tree: &[u32]) -> u
         (Rendered (figures_of outcome) (take (figures_of outcome).size tree.now)) 0
         out.old out.new result }
 {
-    let mut output = Writer::new(out);
+    let mut output = Writer::at_front(out);
     match outcome {
         Err(refusal) => output.number_line(REFUSED, u32::from(refusal)),
         Ok(judged) => {
@@ -82,7 +82,7 @@ pub fn wrong_text(out: &mut [u8; MAX_OUTPUT], line: usize) -> usize
     requires { line < 4294967296 }
     ensures { Placed (WrongText line) 0 out.old out.new result }
 {
-    let mut output = Writer::new(out);
+    let mut output = Writer::at_front(out);
     output.number_line(REFUSED, 13);
     output.number_line(b"line=", line as u32);
     output.at
@@ -92,7 +92,7 @@ pub fn wrong_text(out: &mut [u8; MAX_OUTPUT], line: usize) -> usize
 pub fn long_text(out: &mut [u8; MAX_OUTPUT]) -> usize
     ensures { Placed LongText 0 out.old out.new result }
 {
-    let mut output = Writer::new(out);
+    let mut output = Writer::at_front(out);
     output.number_line(REFUSED, 14);
     output.at
 }

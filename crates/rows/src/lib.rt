@@ -7,12 +7,12 @@ ghost use Rattle.std.specs.Prelude.{ℕ, ◌≡◌, ◌+◌, ◌*◌, ◌<◌, �
 ghost use Rattle.schedule.specs.Letters.{letter_at};
 ghost use Rattle.theory.specs.inside.RunCosts.{sum_run};
 ghost use Rattle.cells.specs.inside.Cells.{con_of, plain_cell, since_cell, until_state, until_cell};
-ghost use Rattle.cells.specs.inside.Cells.{atom_cell};
+ghost use Rattle.cells.specs.inside.Cells.{atom_cell, plain_state};
 ghost use Rattle.cells.specs.inside.Stands.{Stand};
 ghost use Rattle.rows.specs.inside.Rows.{row_of, RowReady, Filled, row_length};
 ghost use Rattle.schedule.specs.Limits.{work_length, max_entries};
 
-use cells::{CUT_OFF, State, atom_cell, con, slid};
+use cells::{CUT_OFF, Connective, State, atom_cell, con, slid};
 use schedule::LentLetters;
 
 // Cells of a row of the work slice: an entry has one row, a position one cell.
@@ -55,9 +55,30 @@ pub fn since_row(work: &mut [u16], row: usize, left: usize, right: usize, cols: 
     }
 }
 
-// A negation, a disjunction or a conjunction, from its parts' rows: position by position, by the state made
-// of the two cells there. A negation names its part twice.
-pub fn plain_row<F: Fn(u16, u16) -> State>(
+// A negation, a disjunction or a conjunction, from its parts' rows. A negation names its part twice. (A kind
+// and no closure that makes a state of two cells: that would ask two clauses more of callers.)
+pub fn plain_row(
+    work: &mut [u16],
+    row: usize,
+    kind: Connective,
+    left: usize,
+    right: usize,
+    cols: usize,
+)
+    requires { RowReady row left right cols (length work.old) }
+    ensures { Filled row cols
+        (plain_cell (plain_state kind) (row_of work.old left) (row_of work.old right))
+        work.old work.new }
+{
+    match kind {
+        Connective::Not => made_row(work, row, left, right, cols, |a, _| State::not(a)),
+        Connective::Or => made_row(work, row, left, right, cols, State::or),
+        Connective::And => made_row(work, row, left, right, cols, State::and),
+    }
+}
+
+// The loop of these kinds: position by position, by the state made of the two cells there.
+fn made_row<F: Fn(u16, u16) -> State>(
     work: &mut [u16],
     row: usize,
     left: usize,

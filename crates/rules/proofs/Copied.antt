@@ -1,8 +1,7 @@
 -- The record's words as a list over zeros, and that they are the list's.
 use mathlib.Core.Path.{◌≡◌, ap, ap₂, ◌∙◌}
 use mathlib.Core.List.{List, ◌++◌}
-use Prim.Native.Nat.{ℕ, zero, suc, ◌-◌, ◌≤◌}
-use Rattle.std.specs.Coded.{le_prop}
+use Prim.Native.Nat.{ℕ, zero, suc, ◌-◌}
 use native.Mathlib.Nat.{sub-zero, zero-sub, suc-sub-suc}
 use lib.ListN.{length, take, drop, replicate}
 use lib.Seq.{take-append_seam}
@@ -15,17 +14,13 @@ drop-replicate zero n = simp sub-zero
 drop-replicate (suc k) zero = simp zero-sub
 drop-replicate (suc k) (suc n) = simp (drop-replicate k n, suc-sub-suc)
 
-pub copied : (list front : List ℕ) (few fits : length list ≤ max_entries) → front ≡ list
-    → record {
-      words = front ++ drop (length list) (replicate max_entries 0);
-      len = length list;
-      within = few;
-    } ≡ table_of list fits
-copied list front few fits p =
+pub copied : (list front : List ℕ) → front ≡ list
+    → record { words = front ++ drop (length list) (replicate max_entries 0); len = length list }
+    ≡ table_of list
+copied list front p =
     let q = ap₂ (λ a b. a ++ b) p (drop-replicate (length list) max_entries) in
-    λ i. record { words = q i; len = length list; within = le_prop few fits i }
+    λ i. record { words = q i; len = length list }
 
-pub words-read : (list : List ℕ) (few : length list ≤ max_entries) (t : Table) → t ≡ table_of list few
-    → take t.len t.words ≡ list
-words-read list few t read =
+pub words-read : (list : List ℕ) (t : Table) → t ≡ table_of list → take t.len t.words ≡ list
+words-read list t read =
     ap (λ x. take x.len x.words) read ∙ take-append_seam list (replicate (max_entries - length list) 0)

@@ -47,7 +47,6 @@ pub enum Binary {
 pub struct Table {
     pub words: [u32; Schedule::MAX_ENTRIES],
     pub len: usize,
-    pub ghost within: { len ≤ max_entries },
 }
 
 // The entry of a word at its index: the kind table, row by row. (A word is taken apart here alone, by
@@ -89,9 +88,9 @@ impl Table {
 
     // A list of words read into the record. Whoever reads has tested that they have a place in it. (Each
     // reader has the record in its own frame: a function that read it for all could not hand the words back.)
-    pub fn new(list: &[u32]) -> Table
+    pub fn holding(list: &[u32]) -> Table
         requires { length list.now ≤ max_entries }
-        ensures made { (few : length list.now ≤ max_entries) × (result ≡ table_of list.now few) }
+        ensures made { result ≡ table_of list.now }
         ensures read { take result.len result.words ≡ list.now }
     {
         let mut words = [0; Schedule::MAX_ENTRIES];
@@ -102,10 +101,10 @@ impl Table {
         }
     }
 
-    // The words that were read.
+    // The words that were read. (Cut at the array's end: anyone can build a record with a longer count.)
     pub fn entries(&self) -> &[u32]
         ensures { result.now ≡ take self.now.len self.now.words }
     {
-        &self.words[..self.len]
+        &self.words[..self.len.min(Schedule::MAX_ENTRIES)]
     }
 }

@@ -8,7 +8,7 @@ ghost use Rattle.search.specs.inside.Filling.{FilledBelow, Limited, Fills};
 ghost use Rattle.schedule.specs.Buffers.{cleared};
 ghost use Rattle.schedule.specs.Limits.{work_length};
 
-use cells::State;
+use cells::Connective;
 use heights::height;
 use rows::{atom_row, plain_row, since_row, until_row};
 use rules::{Binary, Entry, Side, Unary, entry_at};
@@ -29,9 +29,9 @@ fn fill_row(letters: LentLetters<'_>, table: &[u32], work: &mut [u16], row: usiz
     let cols = reach + lap * (Schedule::MAX_HEIGHT - height(table, row, Side::Future));
     match entry_at(table, row) {
         Entry::Atom(a) => atom_row(letters, work, row, a, cols),
-        Entry::One(Unary::Not, l) => plain_row(work, row, l, l, cols, |a, _| State::not(a)),
-        Entry::Two(Binary::Or, l, r) => plain_row(work, row, l, r, cols, State::or),
-        Entry::Two(Binary::And, l, r) => plain_row(work, row, l, r, cols, State::and),
+        Entry::One(Unary::Not, l) => plain_row(work, row, Connective::Not, l, l, cols),
+        Entry::Two(Binary::Or, l, r) => plain_row(work, row, Connective::Or, l, r, cols),
+        Entry::Two(Binary::And, l, r) => plain_row(work, row, Connective::And, l, r, cols),
         Entry::Two(Binary::Since, l, r) => since_row(work, row, l, r, cols),
         Entry::Two(Binary::Until, l, r) => {
             let start = letters.prefix.len() + lap * height(table, r, Side::Past);

@@ -63,7 +63,7 @@ pub fn write(question: LentQuestion<'_>, work: &mut [u16], tree: &mut [u32]) -> 
     ensures { Wrote (question_of question.entry) work.old work.new tree.old tree.new (figures_of result) }
 {
     question.accept_work(work.len())?;
-    let record = Table::new(question.table);
+    let record = Table::holding(question.table);
     let table = record.entries();
     let question = LentQuestion { table, ..question };
     write_words(Passed { question }, work, tree)

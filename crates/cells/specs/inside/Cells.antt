@@ -5,6 +5,8 @@ use Rattle.std.specs.Prelude.{◌&&◌, ◌||◌, cond, eqb, leb}
 use Rattle.theory.specs.inside.Costs.{cut_off, cut}
 use Rattle.theory.specs.inside.RunCosts.{sum_run}
 use Rattle.cells.specs.inside.Stands.{Stand}
+use Rattle.cells.specs.declared.Connective.{Connective}
+use Rattle.cells.specs.declared.Connective.TheVariants.{Not, Or, And}
 
 -- The price, and 8,192 more where the formula holds.
 abbrev pub held_from : ℕ
@@ -48,6 +50,12 @@ and_state a b = record {
   pro = cut (1 + pro_of a + pro_of b);
   con = cut (min (1 + con_of a) (1 + con_of b));
 }
+
+-- What makes a state, by the kind. (It computes, so what is said of a kind is said of that state.)
+abbrev pub plain_state : Connective → ℕ → ℕ → Stand
+plain_state Not = λ a b. not_state a
+plain_state Or = or_state
+plain_state And = and_state
 
 -- A cell of one of these three, by what makes a state of the cells of the parts.
 unfoldable pub plain_cell : (ℕ → ℕ → Stand) → (ℕ → ℕ) → (ℕ → ℕ) → ℕ → ℕ

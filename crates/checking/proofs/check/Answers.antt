@@ -11,10 +11,10 @@ returns-in_err-accept c =
     checked-refused _ _ c.in_err-accept.was c.accept.ensures
     (err_from_is_err_and c.from_residual.result c.from_residual.ensures.1)
 
-pub new-record-requires : goal.new-record-requires
-new-record-requires c = question-few _ (gates-passed c.in_ok-accept.was c.accept.ensures)
+pub holding-record-requires : goal.holding-record-requires
+holding-record-requires c = question-few _ (gates-passed c.in_ok-accept.was c.accept.ensures)
 
 pub invariant_of-judge : goal.invariant_of-judge
 invariant_of-judge c =
-    let same = c.entries-table.ensures ∙ c.new-record.ensures.read in
+    let same = c.entries-table.ensures ∙ c.holding-record.ensures.read in
     record { tests = rw same (gates-passed c.in_ok-accept.was c.accept.ensures) }

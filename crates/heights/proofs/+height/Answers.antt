@@ -16,36 +16,47 @@ height-requires t c = (omega (arith, parts-known c.args.side _ _ c.entry_at.ensu
 pub returns-in-One : goal.returns-in-One
 returns-in-One t c = omega (arith, height-known c.args.side _ _ c.entry_at.ensures c.in-One.is)
 
-pub height-requires-in-Two : goal.height-requires-in-Two
-height-requires-in-Two t c = (omega (arith, parts-known c.args.side _ _ c.entry_at.ensures c.in-Two.is), tt)
+pub height-higher-requires : goal.height-higher-requires
+height-higher-requires t c = (omega (arith, parts-known c.args.side _ _ c.entry_at.ensures c.in-Two.is), tt)
 
 pub overflow_add-result : goal.overflow_add-result
 overflow_add-result t c =
     omega (
       arith,
+      c.adds-added.ensures,
+      c.height-higher.ensures,
       height-once c.args.side _ _ c.entry_at.ensures c.in-Two.is c.if-left-right.true,
       height_bound c.args.side c.args.table.now c.args.entry,
     )
 
-pub returns-in-Two : goal.returns-in-Two
-returns-in-Two t c =
-    omega (arith, height-once c.args.side _ _ c.entry_at.ensures c.in-Two.is c.if-left-right.true)
-
-pub height-requires-in-Two-2 : goal.height-requires-in-Two-2
-height-requires-in-Two-2 t c =
-    (omega (arith, parts-known c.args.side _ _ c.entry_at.ensures c.in-Two.is), tt)
-
-pub height-requires-in-Two-2-2 : goal.height-requires-in-Two-2-2
-height-requires-in-Two-2-2 t c =
-    (omega (arith, parts-known c.args.side _ _ c.entry_at.ensures c.in-Two.is), tt)
-
-pub overflow_add-result-in-Two-2 : goal.overflow_add-result-in-Two-2
-overflow_add-result-in-Two-2 t c =
+pub returns-then-left-right : goal.returns-then-left-right
+returns-then-left-right t c =
     omega (
       arith,
+      c.adds-added.ensures,
+      c.height-higher.ensures,
+      height-once c.args.side _ _ c.entry_at.ensures c.in-Two.is c.if-left-right.true,
+    )
+
+pub height-requires-else-left-right : goal.height-requires-else-left-right
+height-requires-else-left-right t c =
+    (omega (arith, parts-known c.args.side _ _ c.entry_at.ensures c.in-Two.is), tt)
+
+pub overflow_add-result-else-left-right : goal.overflow_add-result-else-left-right
+overflow_add-result-else-left-right t c =
+    omega (
+      arith,
+      c.adds-added.ensures,
+      c.height-higher.ensures,
       height-known c.args.side _ _ c.entry_at.ensures c.in-Two.is,
       height_bound c.args.side c.args.table.now c.args.entry,
     )
 
-pub returns-in-Two-2 : goal.returns-in-Two-2
-returns-in-Two-2 t c = omega (arith, height-known c.args.side _ _ c.entry_at.ensures c.in-Two.is)
+pub returns-else-left-right : goal.returns-else-left-right
+returns-else-left-right t c =
+    omega (
+      arith,
+      c.adds-added.ensures,
+      c.height-higher.ensures,
+      height-known c.args.side _ _ c.entry_at.ensures c.in-Two.is,
+    )

@@ -9,7 +9,8 @@ use Rattle.rendering.proofs.rendered.Goals.{in-Err, in-Ok}
 pub number_line-requires-in-Ok : goal.number_line-requires-in-Ok
 number_line-requires-in-Ok c =
     let v = c.verdict_line.ensures in
-    omega (arith, c.new-output.ensures.at, ap length c.new-output.ensures.bytes, v.short, puts-length v.line)
+    let made = c.at_front-output.ensures in
+    omega (arith, made.at, ap length made.bytes, v.short, puts-length v.line)
 
 pub node_lines-requires : goal.node_lines-requires
 node_lines-requires c =
@@ -20,8 +21,8 @@ node_lines-requires c =
       arith,
       few.0,
       length-take c.in-Ok.judged.size c.args.tree.now,
-      c.new-output.ensures.at,
-      ap length c.new-output.ensures.bytes,
+      c.at_front-output.ensures.at,
+      ap length c.at_front-output.ensures.bytes,
       v.short,
       puts-length v.line,
       number-line-most s (omega (arith, few.0)),
@@ -30,7 +31,7 @@ node_lines-requires c =
 
 pub returns : goal.returns
 returns c =
-    let new = c.new-output in
+    let new = c.at_front-output in
     puts-front new.result c.match-outcome.output new.ensures.bytes new.ensures.at
     (elim c.match-outcome.branch [
       | in-Err w ↦

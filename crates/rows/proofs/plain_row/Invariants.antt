@@ -1,10 +1,13 @@
--- The loop of `rows::plain_row`: the cells passed are filled, all else is as found.
-use Rattle.cells.specs.inside.Cells.{plain_cell}
-use Rattle.rows.specs.inside.Rows.{row_of}
-use Rattle.rows.proofs.Rows.{Partly}
+-- What `rows::plain_row` has `rows::made_row` make of two cells: the state of its kind.
+use Rattle.cells.specs.inside.Cells.{plain_state}
+use Rattle.cells.specs.declared.Connective.TheVariants.{Not, Or, And}
 use Rattle.rows.proofs.plain_row.Given as goal
 
-abbrev pub invariant-loop-p : goal.invariant-loop-p
-invariant-loop-p g l =
-    Partly l.row 0 l.p (plain_cell g.make (row_of l.initial.work l.left) (row_of l.initial.work l.right))
-    l.initial.work l.work
+abbrev pub ghost-made_row : goal.ghost-made_row
+ghost-made_row a = plain_state Not
+
+abbrev pub ghost-made_row-2 : goal.ghost-made_row-2
+ghost-made_row-2 a = plain_state Or
+
+abbrev pub ghost-made_row-3 : goal.ghost-made_row-3
+ghost-made_row-3 a = plain_state And

@@ -1,6 +1,6 @@
 -- `search::fill_row` meets its contract: each kind's row is what the filling asks for.
 use mathlib.Core.Path.{sym, subst, ◌∙◌}
-use Rattle.std.proofs.Common.{◌≡◌, ◌+◌, ◌*◌, ◌-◌, ℕ, List, length, arith, refl, rules}
+use Rattle.std.proofs.Common.{◌≡◌, ◌+◌, ◌*◌, ◌-◌, ℕ, List, length, arith, refl}
 use Rattle.rules.specs.Formula.{height}
 use Rattle.rules.specs.Tables.{formula_of, entry_at}
 use Rattle.rules.specs.declared.Entry.{Entry}
@@ -42,26 +42,21 @@ started : {e n : ℕ} {found left : List ℕ} (v : ℕ) (a b : ℕ → ℕ) {s t
 started {e} {n} {found} {left} v a b same f =
     subst (λ k. Filled e n (until_cell a b n v k) found left) same f
 
-pub plain_row-requires-whole : goal.plain_row-requires-whole
-plain_row-requires-whole c =
+pub plain_row-requires : goal.plain_row-requires
+plain_row-requires c =
     let m = measured c.requires.0 c.height.ensures in
     let part = parts-of m (One _ _) (read c.entry_at.ensures c.in-One-Not-default.is) in
-    let fits = row-ready m _ _ part part in
-    search rules
+    row-ready m _ _ part part
 
-pub plain_row-requires-in-Two-Or-default-default-whole :
-    goal.plain_row-requires-in-Two-Or-default-default-whole
-plain_row-requires-in-Two-Or-default-default-whole c =
-    let arm = c.in-Two-Or-default-default in
-    let fits = ready (measured c.requires.0 c.height.ensures) (read c.entry_at.ensures arm.is) in
-    search rules
+pub plain_row-requires-in-Two-Or-default-default : goal.plain_row-requires-in-Two-Or-default-default
+plain_row-requires-in-Two-Or-default-default c =
+    ready (measured c.requires.0 c.height.ensures)
+    (read c.entry_at.ensures c.in-Two-Or-default-default.is)
 
-pub plain_row-requires-in-Two-And-default-default-whole :
-    goal.plain_row-requires-in-Two-And-default-default-whole
-plain_row-requires-in-Two-And-default-default-whole c =
-    let arm = c.in-Two-And-default-default in
-    let fits = ready (measured c.requires.0 c.height.ensures) (read c.entry_at.ensures arm.is) in
-    search rules
+pub plain_row-requires-in-Two-And-default-default : goal.plain_row-requires-in-Two-And-default-default
+plain_row-requires-in-Two-And-default-default c =
+    ready (measured c.requires.0 c.height.ensures)
+    (read c.entry_at.ensures c.in-Two-And-default-default.is)
 
 pub since_row-requires : goal.since_row-requires
 since_row-requires c =

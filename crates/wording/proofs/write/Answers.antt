@@ -11,13 +11,13 @@ returns-in_err-accept_work c =
     wrote-refused _ _ _ c.in_err-accept_work.was c.accept_work.ensures
     (err_from_is_err_and c.from_residual.result c.from_residual.ensures.1)
 
-pub new-record-requires : goal.new-record-requires
-new-record-requires c =
+pub holding-record-requires : goal.holding-record-requires
+holding-record-requires c =
     question-few _ (work-question _ _ (gates-passed c.in_ok-accept_work.was c.accept_work.ensures))
 
 pub invariant_of-write_words : goal.invariant_of-write_words
 invariant_of-write_words c =
-    let same = c.entries-table.ensures ∙ c.new-record.ensures.read in
+    let same = c.entries-table.ensures ∙ c.holding-record.ensures.read in
     record {
       tests = rw same (work-question _ _ (gates-passed c.in_ok-accept_work.was c.accept_work.ensures));
     }

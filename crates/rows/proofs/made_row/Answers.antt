@@ -1,6 +1,6 @@
--- `rows::plain_row` meets its contract.
+-- `rows::made_row` meets its contract.
 use Rattle.rows.proofs.Rows.{plain_turn}
-use Rattle.rows.proofs.plain_row.Goals as goal
+use Rattle.rows.proofs.made_row.Goals as goal
 
 pub loop-p-preserved : goal.loop-p-preserved
 loop-p-preserved g c =
