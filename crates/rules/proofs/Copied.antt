@@ -1,7 +1,7 @@
--- The record's words as a list over zeros, and that they are the list's.
-use mathlib.Core.Path.{◌≡◌, ap, ap₂, ◌∙◌}
+-- The record's words as a list over zeros, that they are the list's, and that they have their places.
+use mathlib.Core.Path.{◌≡◌, sym, ap, ap₂, subst, ◌∙◌}
 use mathlib.Core.List.{List, ◌++◌}
-use Prim.Native.Nat.{ℕ, zero, suc, ◌-◌}
+use Prim.Native.Nat.{ℕ, zero, suc, ◌-◌, ◌≤◌}
 use native.Mathlib.Nat.{sub-zero, zero-sub, suc-sub-suc}
 use lib.ListN.{length, take, drop, replicate}
 use lib.Seq.{take-append_seam}
@@ -24,3 +24,8 @@ copied list front p =
 pub words-read : (list : List ℕ) (t : Table) → t ≡ table_of list → take t.len t.words ≡ list
 words-read list t read =
     ap (λ x. take x.len x.words) read ∙ take-append_seam list (replicate (max_entries - length list) 0)
+
+-- What `Table::holding` answers counts no more words than its array has places.
+pub record-few : (list : List ℕ) → length list ≤ max_entries → (t : Table) → t ≡ table_of list
+    → t.len ≤ max_entries
+record-few list few t read = subst (λ x. x.len ≤ max_entries) (sym read) few
